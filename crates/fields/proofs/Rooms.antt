@@ -1,0 +1,108 @@
+-- When reading and writing are refused, and that what was taken is read.
+use mathlib.Core.Path.{_≡_, refl, sym, ap, _∙_}
+use mathlib.Core.Bool.{Bool, true, false, _&&_, cond, and-false, false≢true, true≢false}
+use mathlib.Core.Logic.{_⊎_, inl, inr, ⊎-elim}
+use Prim.Native.Nat.{ℕ, _+_, _-_, _^_, _≤_, _<_}
+use native.Mathlib.Decide.{decLe}
+use native.Mathlib.Omega.{arith}
+use lib.Dec.{leb, ltb}
+use borrow.Author.Tests.{le-leb, lt-leb, lt-ltb, leb-true, ltb-true}
+use lib.ListN.{length}
+use Rattle.fields.specs.Fields.{field}
+use Rattle.fields.specs.Usable.{usableBits, lies, takes, fieldAt, putAt, told}
+use Rattle.fields.specs.Promises.{Found-exactly, Refused-exactly, Taken-exactly, Taken-is-read, Refused-is-kept}
+use Rattle.fields.specs.declared.Field.the-variants.{Value, Short}
+use Rattle.fields.proofs.Kept.{length-kept}
+use Rattle.fields.proofs.ReadBack.{read-back}
+
+pub both : (a b : Bool) → (a && b) ≡ true → (a ≡ true) × (b ≡ true)
+both true true e = (refl, refl)
+both true false e = absurd (false≢true e)
+both false b e = absurd (false≢true e)
+
+pub differ : _≡_ {A = ℕ} 0 1 → ⊥
+differ z = omega arith
+
+-- ---- the test for a field
+
+module _ (n place w : ℕ) where
+  pub there : w ≤ 64 → place + w ≤ usableBits n → lies n place w ≡ true
+  unfolding lies
+  there h l = rw (le-leb w 64 h, le-leb (place + w) (usableBits n) l)
+
+  pub too-wide : 64 < w → lies n place w ≡ false
+  unfolding lies
+  too-wide h = rw (lt-leb w 64 h)
+
+  pub past-end : usableBits n < place + w → lies n place w ≡ false
+  unfolding lies
+  past-end h = rw (lt-leb (place + w) (usableBits n) h) (and-false (leb w 64))
+
+  -- the test by what is left from place on, which no sum can overflow
+  pub by-rest : w ≤ 64 → place ≤ usableBits n → leb w (usableBits n - place) ≡ lies n place w
+  by-rest h l = go (decLe w (usableBits n - place))
+    where
+      go : Dec (w ≤ usableBits n - place) → leb w (usableBits n - place) ≡ lies n place w
+      go (yes d) = le-leb w (usableBits n - place) d ∙ sym (there h (omega arith))
+      go (no d) = lt-leb w (usableBits n - place) (omega arith) ∙ sym (past-end (omega arith))
+
+  pub lying : lies n place w ≡ true → (w ≤ 64) × (place + w ≤ usableBits n)
+  unfolding lies
+  lying e =
+      let t = both (leb w 64) (leb (place + w) (usableBits n)) e in
+      (leb-true w 64 (t .0), leb-true (place + w) (usableBits n) (t .1))
+
+  pub missing : lies n place w ≡ false → (64 < w) ⊎ (usableBits n < place + w)
+  missing e = go (decLe w 64) (decLe (place + w) (usableBits n))
+    where
+      go : Dec (w ≤ 64) → Dec (place + w ≤ usableBits n) → (64 < w) ⊎ (usableBits n < place + w)
+      go (yes h) (yes l) = absurd (true≢false (sym (there h l) ∙ e))
+      go (yes h) (no l) = inr (omega arith)
+      go (no h) l = inl (omega arith)
+
+-- ---- reading
+
+pub found-exactly : Found-exactly
+unfolding fieldAt
+found-exactly s place w v = (
+  λ e. go (lies (length s) place w) refl e,
+  λ h. rw (there (length s) place w (h .0) (h .1), h .2),
+)
+  where
+    go : (b : Bool) → lies (length s) place w ≡ b → told (cond b (Value (field s place w)) Short) ≡ (0, v) → (w ≤ 64) × (place + w ≤ usableBits (length s)) × (v ≡ field s place w)
+    go true p e = let h = lying (length s) place w p in (h .0, h .1, sym (ap (λ (t : ℕ × ℕ). t .1) e))
+    go false p e = absurd (differ (sym (ap (λ (t : ℕ × ℕ). t .0) e)))
+
+pub refused-exactly : Refused-exactly
+unfolding fieldAt
+refused-exactly s place w = (
+  λ e. go (lies (length s) place w) refl e,
+  ⊎-elim (λ h. rw (too-wide (length s) place w h)) (λ h. rw (past-end (length s) place w h)),
+)
+  where
+    go : (b : Bool) → lies (length s) place w ≡ b → told (cond b (Value (field s place w)) Short) ≡ (1, 0) → (64 < w) ⊎ (usableBits (length s) < place + w)
+    go true p e = absurd (differ (ap (λ (t : ℕ × ℕ). t .0) e))
+    go false p e = missing (length s) place w p
+
+-- ---- writing
+
+pub taken-exactly : Taken-exactly
+unfolding takes
+taken-exactly n place w v = (
+  λ e.
+      let t = both (lies n place w) (ltb v (2 ^ w)) e in
+      let h = lying n place w (t .0) in
+      (h .0, h .1, ltb-true v (2 ^ w) (t .1)),
+  λ h. rw (there n place w (h .0) (h .1), lt-ltb v (2 ^ w) (h .2)),
+)
+
+pub taken-is-read : Taken-is-read
+unfolding putAt fieldAt
+taken-is-read s place w v e =
+    let h = taken-exactly (length s) place w v .0 e in
+    rw (e, length-kept s place w v, there (length s) place w (h .0) (h .1))
+    (ap Value (read-back s place w v (h .2) (omega (arith, h .1))))
+
+pub refused-is-kept : Refused-is-kept
+unfolding putAt
+refused-is-kept s place w v e = rw e

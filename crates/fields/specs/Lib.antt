@@ -1,0 +1,5 @@
+pub mod Bits
+pub mod Fields
+pub mod Usable
+pub mod Twos
+pub mod Promises

@@ -1,0 +1,43 @@
+-- Two's complement in a field of w bits.
+use Prim.Native.Nat.{ℕ, suc, _-_, _^_}
+use mathlib.Core.Bool.{Bool, cond, _&&_}
+use lib.Dec.{leb, ltb}
+use lib.IntN.{ℤ, pos, negsuc}
+use lib.Signed.{mag}
+use Rattle.fields.specs.declared.Encoded.{Encoded}
+use Rattle.fields.specs.declared.Encoded.the-variants as encoding
+use Rattle.fields.specs.declared.Decoded.{Decoded}
+use Rattle.fields.specs.declared.Decoded.the-variants as decoding
+use Rattle.fields.specs.declared.Decoded32.{Decoded32}
+use Rattle.fields.specs.declared.Decoded32.the-variants as decoding32
+
+-- the number that stands for z; negsuc n is -1 - n
+abbrev pub twos : ℕ → ℤ → ℕ
+twos w (pos n) = n
+twos w (negsuc n) = 2 ^ w - suc n
+
+-- the integer that n stands for
+unfoldable pub signed : ℕ → ℕ → ℤ
+signed w n = cond (ltb n (2 ^ (w - 1))) (pos n) (negsuc (2 ^ w - suc n))
+
+-- a field of 1 to 64 bits
+unfoldable pub wide : ℕ → Bool
+wide w = leb 1 w && leb w 64
+
+-- z has a place in w bits: from -2 ^ (w - 1) to 2 ^ (w - 1) - 1
+abbrev pub within : ℕ → ℤ → Bool
+within w z = ltb (mag z) (2 ^ (w - 1))
+
+unfoldable pub encoded : ℕ → ℤ → Encoded
+encoded w z = cond (wide w && within w z) (encoding.Number (twos w z)) encoding.Misfit
+
+unfoldable pub decoded : ℕ → ℕ → Decoded
+decoded w n = cond (wide w && ltb n (2 ^ w)) (decoding.Value (signed w n)) decoding.Misfit
+
+-- the same as an i32
+abbrev pub narrowed : Decoded → Decoded32
+narrowed (decoding.Value z) = cond (within 32 z) (decoding32.Value z) decoding32.Misfit
+narrowed decoding.Misfit = decoding32.Misfit
+
+unfoldable pub decoded32 : ℕ → ℕ → Decoded32
+decoded32 w n = narrowed (decoded w n)
