@@ -1,5 +1,6 @@
 // Writes and reads fields, and prints what came of it.
 use fields::Decoded;
+use fields::Decoded32;
 use fields::Encoded;
 use fields::Field;
 use libc::STDOUT_FILENO;
@@ -8,6 +9,7 @@ fn main() {
     probe();
     response();
     refusals();
+    edges();
     signs();
     print(b"65 widths at 16 places: ");
     io::print_hex(STDOUT_FILENO, sweep(), 8);
@@ -68,6 +70,22 @@ fn refusals() {
     print(b"\n");
 }
 
+// A slice of no bytes, and one that is a byte longer than the usable ones.
+fn edges() {
+    let none = [0u8; 0];
+    let mut long = [255u8; 65537];
+    print(b"of no bytes 0 bits, 1 bit:");
+    print_field(fields::get(&none, 0, 0));
+    print_field(fields::get(&none, 0, 1));
+    print(b"\nof 65537 bytes the last 8 usable bits, 1 behind, 64 around:");
+    print_room(fields::put(&mut long, 524280, 8, 1));
+    print_room(fields::put(&mut long, 524288, 1, 1));
+    print_room(fields::put(&mut long, 524225, 64, 1));
+    print_field(fields::get(&long, 524224, 64));
+    print_field(fields::get(&long, 524288, 1));
+    print(b"\n");
+}
+
 // The ends of a few widths, and one past them.
 fn signs() {
     print(b"-1, 0, 1 in 1 bit:");
@@ -82,6 +100,9 @@ fn signs() {
     print_number(fields::encode(9223372036854775807, 64));
     print_value(fields::decode(9223372036854775808, 64));
     print_value(fields::decode(9223372036854775807, 64));
+    print(b"\n4294967295 in 32 bits, 2147483648 in 40, as an i32:");
+    print_value32(fields::decode32(4294967295, 32));
+    print_value32(fields::decode32(2147483648, 40));
     print(b"\n1 in 1 bit, 2 in 1 bit, 0 in none:");
     print_value(fields::decode(1, 1));
     print_value(fields::decode(2, 1));
@@ -168,8 +189,15 @@ fn print_number(encoded: Encoded) {
 
 fn print_value(decoded: Decoded) {
     match decoded {
-        Decoded::Value(v) => print_signed(v),
+        Decoded::Value(v) => print_signed(fields::encode(v, 64)),
         Decoded::Misfit => print(b" misfit"),
+    }
+}
+
+fn print_value32(decoded: Decoded32) {
+    match decoded {
+        Decoded32::Value(v) => print_signed(fields::encode32(v, 64)),
+        Decoded32::Misfit => print(b" misfit"),
     }
 }
 
@@ -178,9 +206,9 @@ fn print_decimal(n: u64) {
     io::print_decimal(STDOUT_FILENO, n);
 }
 
-// By the 64 bits that stand for v: those of the lower half are v itself.
-fn print_signed(v: i64) {
-    let Encoded::Number(n) = fields::encode(v, 64) else {
+// A value by the 64 bits that stand for it: those of the lower half are the value itself.
+fn print_signed(encoded: Encoded) {
+    let Encoded::Number(n) = encoded else {
         return;
     };
     if n < 9223372036854775808 {

@@ -1,12 +1,15 @@
+-- The laws, from one digit up to what a caller of the public functions cites.
+pub mod Tests
 pub mod Digits
 pub mod Bits
 pub mod Kept
 pub mod ReadBack
 pub mod SameBits
 pub mod TwoFields
+pub mod Turns
 pub mod Rooms
 pub mod Signs
+pub mod Misfits
 pub mod RoundTrip
-mod Turns
 pub mod Outcomes
 pub mod Cases

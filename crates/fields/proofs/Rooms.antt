@@ -1,8 +1,9 @@
 -- When reading and writing are refused, and that what was taken is read.
 use mathlib.Core.Path.{_≡_, refl, sym, ap, _∙_}
-use mathlib.Core.Bool.{Bool, true, false, _&&_, cond, and-false, false≢true, true≢false}
+use mathlib.Core.Bool.{Bool, true, false, cond, and-false, true≢false}
 use mathlib.Core.Logic.{_⊎_, inl, inr, ⊎-elim}
 use Prim.Native.Nat.{ℕ, _+_, _-_, _^_, _≤_, _<_}
+use native.Mathlib.Nat.{suc-ne-zero}
 use native.Mathlib.Decide.{decLe}
 use native.Mathlib.Omega.{arith}
 use lib.Dec.{leb, ltb}
@@ -12,16 +13,9 @@ use Rattle.fields.specs.Fields.{field}
 use Rattle.fields.specs.Usable.{usableBits, lies, takes, fieldAt, putAt, told}
 use Rattle.fields.specs.Promises.{Found-exactly, Refused-exactly, Taken-exactly, Taken-is-read, Refused-is-kept}
 use Rattle.fields.specs.declared.Field.the-variants.{Value, Short}
+use Rattle.fields.proofs.Tests.{both}
 use Rattle.fields.proofs.Kept.{length-kept}
 use Rattle.fields.proofs.ReadBack.{read-back}
-
-pub both : (a b : Bool) → (a && b) ≡ true → (a ≡ true) × (b ≡ true)
-both true true e = (refl, refl)
-both true false e = absurd (false≢true e)
-both false b e = absurd (false≢true e)
-
-pub differ : _≡_ {A = ℕ} 0 1 → ⊥
-differ z = omega arith
 
 -- ---- the test for a field
 
@@ -71,7 +65,7 @@ found-exactly s place w v = (
   where
     go : (b : Bool) → lies (length s) place w ≡ b → told (cond b (Value (field s place w)) Short) ≡ (0, v) → (w ≤ 64) × (place + w ≤ usableBits (length s)) × (v ≡ field s place w)
     go true p e = let h = lying (length s) place w p in (h .0, h .1, sym (ap (λ (t : ℕ × ℕ). t .1) e))
-    go false p e = absurd (differ (sym (ap (λ (t : ℕ × ℕ). t .0) e)))
+    go false p e = absurd (suc-ne-zero 0 (ap (λ (t : ℕ × ℕ). t .0) e))
 
 pub refused-exactly : Refused-exactly
 unfolding fieldAt
@@ -81,7 +75,7 @@ refused-exactly s place w = (
 )
   where
     go : (b : Bool) → lies (length s) place w ≡ b → told (cond b (Value (field s place w)) Short) ≡ (1, 0) → (64 < w) ⊎ (usableBits (length s) < place + w)
-    go true p e = absurd (differ (ap (λ (t : ℕ × ℕ). t .0) e))
+    go true p e = absurd (suc-ne-zero 0 (sym (ap (λ (t : ℕ × ℕ). t .0) e)))
     go false p e = missing (length s) place w p
 
 -- ---- writing

@@ -9,7 +9,7 @@ use lib.ListN.{length}
 use Rattle.fields.specs.Bits.{Bytes, bit}
 use Rattle.fields.specs.Fields.{field, putField}
 use Rattle.fields.specs.Usable.{usableBits, takes, fieldAt, putAt, told}
-use Rattle.fields.specs.Twos.{within, encoded, decoded, decoded32}
+use Rattle.fields.specs.Twos.{signed, within, encoded, decoded, decoded32}
 use Rattle.fields.specs.declared.Field.the-variants as finding
 use Rattle.fields.specs.declared.Encoded.the-variants as encoding
 use Rattle.fields.specs.declared.Decoded.the-variants as decoding
@@ -79,3 +79,7 @@ Round-trip = (w n : ℕ) (z : ℤ) → (encoded w z ≡ encoding.Number n) ↔ (
 
 abbrev pub Round-trip32 : Type 0
 Round-trip32 = (w n : ℕ) (z : ℤ) → ((encoded w z ≡ encoding.Number n) × (within 32 z ≡ true)) ↔ (decoded32 w n ≡ decoding32.Value z)
+
+-- A number that was read from a field of at least 1 bit stands for a value.
+abbrev pub Read-decodes : Type 0
+Read-decodes = (s : List ℕ) (place w n : ℕ) → 0 < w → fieldAt s place w ≡ finding.Value n → decoded w n ≡ decoding.Value (signed w n)

@@ -80,6 +80,7 @@ pub fn encode(value: i64, width: usize) -> Encoded
     Encoded::Number(sign::number(value, width))
 }
 
+// The same of an i32.
 pub fn encode32(value: i32, width: usize) -> Encoded
     ensures { λ r. ⌜ r ≡ encoded width value ⌝ }
 {
@@ -102,6 +103,7 @@ pub fn decode(number: u64, width: usize) -> Decoded
     Decoded::Misfit
 }
 
+// The same as an i32.
 pub fn decode32(number: u64, width: usize) -> Decoded32
     ensures { λ r. ⌜ r ≡ decoded32 width number ⌝ }
 {

@@ -7,7 +7,7 @@ use borrow.Author.Needs.{needs}
 use borrow.Author.Tests.{ltb-true, ltb-false}
 use Rattle.fields.specs.Twos.{decoded}
 use Rattle.fields.specs.declared.Decoded.the-variants.{Value}
-use Rattle.fields.proofs.RoundTrip.{wide-enough, no-width, over-wide, too-long, decoded-there}
+use Rattle.fields.proofs.Misfits.{wide-enough, no-width, over-wide, too-long, decoded-there}
 use Rattle.fields.proofs.decode.Statement.{statement}
 use Rattle.fields.proofs.decode.Tie as tie
 

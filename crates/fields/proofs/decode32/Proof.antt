@@ -11,7 +11,7 @@ use borrow.Author.Needs.{needs}
 use Rattle.fields.specs.Twos.{decoded}
 use Rattle.fields.specs.declared.Decoded.the-variants.{Value}
 use Rattle.fields.specs.declared.Decoded32.the-variants.{Value as Value32}
-use Rattle.fields.proofs.RoundTrip.{misfit32, over32, there32}
+use Rattle.fields.proofs.Misfits.{misfit32, over32, there32}
 use Rattle.fields.proofs.decode32.Statement.{statement}
 use Rattle.fields.proofs.decode32.Tie as tie
 

@@ -6,7 +6,7 @@ use mir.Facts.{toZ-ofZ}
 use borrow.Author.Needs.{needs}
 use Rattle.fields.specs.Twos.{twos, encoded}
 use Rattle.fields.specs.declared.Encoded.the-variants.{Number}
-use Rattle.fields.proofs.RoundTrip.{wide-enough, no-width, over-wide, too-large, encoded-there}
+use Rattle.fields.proofs.Misfits.{wide-enough, no-width, over-wide, too-large, encoded-there}
 use Rattle.fields.proofs.encode.Statement.{statement}
 use Rattle.fields.proofs.encode.Tie as tie
 
