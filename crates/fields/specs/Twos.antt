@@ -20,21 +20,28 @@ twos w (negsuc n) = 2 ^ w - suc n
 unfoldable pub signed : ℕ → ℕ → ℤ
 signed w n = cond (ltb n (2 ^ (w - 1))) (pos n) (negsuc (2 ^ w - suc n))
 
--- a field of 1 to 64 bits
+-- w is 1 to 64
 unfoldable pub wide : ℕ → Bool
 wide w = leb 1 w && leb w 64
 
--- z has a place in w bits: from -2 ^ (w - 1) to 2 ^ (w - 1) - 1
+-- z is from -2 ^ (w - 1) to 2 ^ (w - 1) - 1; mag is n of the integer n, and of -1 - n
 abbrev pub within : ℕ → ℤ → Bool
 within w z = ltb (mag z) (2 ^ (w - 1))
 
+-- a field of w bits has a number for z, and a value for n
+unfoldable pub encodes : ℕ → ℤ → Bool
+encodes w z = wide w && within w z
+
+unfoldable pub decodes : ℕ → ℕ → Bool
+decodes w n = wide w && ltb n (2 ^ w)
+
 unfoldable pub encoded : ℕ → ℤ → Encoded
-encoded w z = cond (wide w && within w z) (encoding.Number (twos w z)) encoding.Misfit
+encoded w z = cond (encodes w z) (encoding.Number (twos w z)) encoding.Misfit
 
 unfoldable pub decoded : ℕ → ℕ → Decoded
-decoded w n = cond (wide w && ltb n (2 ^ w)) (decoding.Value (signed w n)) decoding.Misfit
+decoded w n = cond (decodes w n) (decoding.Value (signed w n)) decoding.Misfit
 
--- the same as an i32
+-- the value as an i32, where it is one
 abbrev pub narrowed : Decoded → Decoded32
 narrowed (decoding.Value z) = cond (within 32 z) (decoding32.Value z) decoding32.Misfit
 narrowed decoding.Misfit = decoding32.Misfit

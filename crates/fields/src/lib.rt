@@ -68,16 +68,10 @@ pub fn put(bytes: &mut [u8], place: usize, width: usize, value: u64) -> bool
 pub fn encode(value: i64, width: usize) -> Encoded
     ensures { λ r. ⌜ r ≡ encoded width value ⌝ }
 {
-    if width < 1 {
-        return Encoded::Misfit;
+    if sign::encodes(width, value) {
+        return Encoded::Number(sign::number(width, value));
     }
-    if 64 < width {
-        return Encoded::Misfit;
-    }
-    if room::power(width - 1) <= sign::magnitude(value) {
-        return Encoded::Misfit;
-    }
-    Encoded::Number(sign::number(value, width))
+    Encoded::Misfit
 }
 
 // The same of an i32.
@@ -91,14 +85,8 @@ pub fn encode32(value: i32, width: usize) -> Encoded
 pub fn decode(number: u64, width: usize) -> Decoded
     ensures { λ r. ⌜ r ≡ decoded width number ⌝ }
 {
-    if width < 1 {
-        return Decoded::Misfit;
-    }
-    if 64 < width {
-        return Decoded::Misfit;
-    }
-    if room::holds(width, number) {
-        return Decoded::Value(sign::value(number, width));
+    if sign::decodes(width, number) {
+        return Decoded::Value(sign::value(width, number));
     }
     Decoded::Misfit
 }
@@ -110,8 +98,8 @@ pub fn decode32(number: u64, width: usize) -> Decoded32
     let Decoded::Value(value) = decode(number, width) else {
         return Decoded32::Misfit;
     };
-    if 2147483648 <= sign::magnitude(value) {
-        return Decoded32::Misfit;
+    if sign::magnitude(value) < 2147483648 {
+        return Decoded32::Value(value as i32);
     }
-    Decoded32::Value(value as i32)
+    Decoded32::Misfit
 }

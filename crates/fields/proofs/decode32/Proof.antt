@@ -1,17 +1,16 @@
 -- `decode32` meets its contract: what an i32 has no place for is refused.
 use mathlib.Core.Path.{_≡_, _∙_, sym, ap}
-use Prim.Native.Nat.{_<_, _^_}
+use Prim.Native.Nat.{_^_, _≤_, _<_}
 use native.Mathlib.Omega.{arith}
 use lib.IntN.{ℤ}
 use lib.Signed.{mag}
 use mir.Facts.{toZ-ofZ}
 use mir.Syntax.{w32, w64}
-use mir.Val.{SFits, toZ, ofZ}
+use mir.Val.{SFits}
 use borrow.Author.Needs.{needs}
-use Rattle.fields.specs.Twos.{decoded}
+use borrow.Author.Tests.{lt-ltb, le-ltb}
+use Rattle.fields.specs.Twos.{decoded, decoded32}
 use Rattle.fields.specs.declared.Decoded.the-variants.{Value}
-use Rattle.fields.specs.declared.Decoded32.the-variants.{Value as Value32}
-use Rattle.fields.proofs.Misfits.{misfit32, over32, there32}
 use Rattle.fields.proofs.decode32.Statement.{statement}
 use Rattle.fields.proofs.decode32.Tie as tie
 
@@ -25,12 +24,13 @@ enum-told : tie.Need-enum-told
 enum-told c = search needs
 
 returns : tie.Need-returns
-returns c = sym (misfit32 _ _ (sym (c .before .before .decode .ensures) ∙ c .enum-told .given .1))
+unfolding decoded32
+returns c = rw (sym (c .before .before .decode .ensures) ∙ c .enum-told .given .1)
 
 magnitude-requires : tie.Need-magnitude-requires
 magnitude-requires c κs = search needs
 
--- the value that was decoded, and its range
+-- the value that was decoded
 module _ (c : tie.After-magnitude) where
   abbrev z : ℤ
   z = c .before .before .value .given .0 .0
@@ -44,16 +44,22 @@ module _ (c : tie.After-magnitude) where
   size : c .magnitude .result ≡ mag z
   size = c .magnitude .ensures ∙ ap mag (toZ-ofZ fits64)
 
-returns-2 : tie.Need-returns-2
-returns-2 c = sym (over32 _ _ (z (c .before)) (is-decoded (c .before)) (omega (arith, size (c .before))))
-
 cast-t7 : tie.Need-cast-t7
 cast-t7 c = search needs
 
+returns-2 : tie.Need-returns-2
+unfolding decoded32
+returns-2 c =
+    let m = c .before in
+    let h : mag (z m) < 2 ^ 31 = omega (arith, size m) in
+    rw (is-decoded m, lt-ltb (mag (z m)) (2 ^ 31) h, toZ-ofZ (fits64 m), toZ-ofZ {w = w32} (record { sfits = h }))
+
 returns-3 : tie.Need-returns-3
+unfolding decoded32
 returns-3 c =
-    let h : mag (z (c .before)) < 2 ^ 31 = omega (arith, size (c .before)) in
-    ap Value32 (ap (λ (y : ℤ). toZ w32 (ofZ w32 y)) (toZ-ofZ (fits64 (c .before))) ∙ toZ-ofZ (record { sfits = h })) ∙ sym (there32 _ _ (z (c .before)) (is-decoded (c .before)) h)
+    let m = c .before in
+    let h : 2 ^ 31 ≤ mag (z m) = omega (arith, size m) in
+    rw (is-decoded m, le-ltb (mag (z m)) (2 ^ 31) h)
 
 pub decode32-spec : {M : Type 1} → statement M
 decode32-spec =
@@ -64,6 +70,6 @@ decode32-spec =
     enum-told
     returns
     magnitude-requires
-    returns-2
     cast-t7
+    returns-2
     returns-3)

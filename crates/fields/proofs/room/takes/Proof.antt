@@ -1,5 +1,6 @@
 -- `room::takes` meets its contract: one test after the other, as in the definition.
 use mathlib.Core.Path.{sym, _∙_}
+use native.Mathlib.Omega.{arith}
 use borrow.Author.Needs.{needs}
 use Rattle.fields.specs.Usable.{takes}
 use Rattle.fields.proofs.Rooms.{lying}
@@ -10,7 +11,7 @@ lies-requires : tie.Need-lies-requires
 lies-requires c κs = search needs
 
 holds-requires : tie.Need-holds-requires
-holds-requires c κs = lying _ _ _ (sym (c .before .lies .ensures) ∙ c .if1 .taken) .0
+holds-requires c κs = omega (arith, lying _ _ _ (sym (c .before .lies .ensures) ∙ c .if1 .taken))
 
 returns : tie.Need-returns
 unfolding takes
