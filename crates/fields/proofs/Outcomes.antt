@@ -1,6 +1,7 @@
--- Any two outcomes that a public contract allows are equal. Each contract is the function's own, as its source states it: `Post` of its `Reads`.
-use mathlib.Core.Path.{_≡_, sym, _∙_}
+-- Each public contract leaves one outcome. It is the function's own contract, as its source states it: `Post` of its `Reads`.
+use mathlib.Core.Path.{sym, _∙_}
 use denote.Ref.{now}
+use Rattle.fields.specs.Outcomes.{OneResult, OneOutcome}
 use Rattle.fields.proofs.room.usable_bits.Reads as usable_bits
 use Rattle.fields.proofs.get.Reads as get
 use Rattle.fields.proofs.put.Reads as put
@@ -8,15 +9,6 @@ use Rattle.fields.proofs.encode.Reads as encode
 use Rattle.fields.proofs.encode32.Reads as encode32
 use Rattle.fields.proofs.decode.Reads as decode
 use Rattle.fields.proofs.decode32.Reads as decode32
-
-module _ {ℓ ℓ₁ ℓ₂ ℓ₃} {K : Type ℓ} {A : K → Type ℓ₁} {R : K → Type ℓ₂} {E : K → Type ℓ₃} where
-  -- whatever is handed in, the contract leaves one result
-  abbrev pub OneResult : ((κ : K) → A κ → R κ → E κ → Type 0) → Type (ℓ ⊔ ℓ₁ ⊔ ℓ₂ ⊔ ℓ₃)
-  OneResult Post = (κ : K) (a : A κ) (x y : R κ) (s t : E κ) → Post κ a x s → Post κ a y t → x ≡ y
-
-  -- and one content of what was lent
-  abbrev pub OneOutcome {ℓ₄} : {L : Type ℓ₄} → ((κ : K) → A κ → R κ → E κ → Type 0) → ((κ : K) → E κ → L) → Type (ℓ ⊔ ℓ₁ ⊔ ℓ₂ ⊔ ℓ₃ ⊔ ℓ₄)
-  OneOutcome Post lent = (κ : K) (a : A κ) (x y : R κ) (s t : E κ) → Post κ a x s → Post κ a y t → (x ≡ y) × (lent κ s ≡ lent κ t)
 
 pub usable-bits-once : OneResult usable_bits.Post
 usable-bits-once κ a x y s t p q = p ∙ sym q

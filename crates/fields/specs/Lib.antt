@@ -4,3 +4,4 @@ pub mod Fields
 pub mod Usable
 pub mod Twos
 pub mod Promises
+pub mod Outcomes
