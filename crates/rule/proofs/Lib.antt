@@ -1,0 +1,7 @@
+-- The laws of one ordered pair, by what they say.
+pub mod Lists
+pub mod Runs
+pub mod Configurations
+pub mod Bound
+pub mod Rounds
+pub mod Outcomes

@@ -1,0 +1,54 @@
+-- What is promised of one ordered pair. The theorem that proves a statement bears its name in small letters.
+use mathlib.Core.Path.{_≡_}
+use mathlib.Core.Bool.{Bool, true}
+use mathlib.Core.Logic.{_↔_}
+use mathlib.Core.List.{List, [], _∷_, _++_}
+use Prim.Native.Nat.{ℕ, _+_, _*_, _≤_}
+use lib.ListN.{length, replicate}
+use Rattle.rule.specs.Pair.{Request, combine, write, belongs, own, next, price, numberAfter, messages, rounds}
+use Rattle.rule.specs.Schedules.{Mode, off, Schedule, staysOff, potential}
+use Rattle.rule.specs.Configurations.{Configuration}
+
+-- Twice the messages is at most five times the cost of any schedule of the same list, and the potential of the start.
+abbrev pub Bound : Type 0
+Bound = (m : Mode) (k : ℕ) (l : List Request) (c : ℕ) → Schedule m l c → 2 * messages 2 k l ≤ 5 * c + potential m k
+
+-- For a fresh pair and a schedule that starts off that is five halves of the cost.
+abbrev pub Five-halves : Type 0
+Five-halves = (l : List Request) (c : ℕ) → Schedule off l c → 2 * messages 2 0 l ≤ 5 * c
+
+-- The n rounds cost 5 n messages, for every n, and the schedule that stays off costs 2 n.
+abbrev pub Rounds-cost : Type 0
+Rounds-cost = (n : ℕ) → messages 2 0 (rounds n) ≡ 5 * n
+
+abbrev pub Rounds-off : Type 0
+Rounds-off = (n : ℕ) → (c : ℕ) × (s : Schedule off (rounds n) c) × (staysOff s ≡ true) × (c ≡ 2 * n)
+
+-- The number is the paper's configuration.
+abbrev pub Configured : Type 0
+Configured = (l : List Request) (k : ℕ) → Configuration l k ↔ (numberAfter 2 0 l ≡ k)
+
+-- A lease is granted after 1 combine, and broken after b writes in a row, not sooner: Lemma 5.1, with b for 2.
+abbrev pub Granted : Type 0
+Granted = (b k n : ℕ) → 1 ≤ n → numberAfter b k (replicate n combine) ≡ b
+
+abbrev pub Broken-exactly : Type 0
+Broken-exactly = (b k n : ℕ) → (numberAfter b k (combine ∷ replicate n write) ≡ 0) ↔ (b ≤ n)
+
+-- One request more at the end: the pair's own list, the number and the messages after it.
+abbrev pub Own-more : Type 1
+Own-more = (Q : Type 0) (kind : Q → Request) (near : Q → Bool) (l : List Q) (q : Q) → own kind near (l ++ (q ∷ [])) ≡ own kind near l ++ belongs (kind q) (near q) []
+
+abbrev pub Number-more : Type 0
+Number-more = (b k : ℕ) (l : List Request) (r : Request) → numberAfter b k (l ++ (r ∷ [])) ≡ next b (numberAfter b k l) r
+
+abbrev pub Messages-more : Type 0
+Messages-more = (b k : ℕ) (l : List Request) (r : Request) → messages b k (l ++ (r ∷ [])) ≡ messages b k l + price (numberAfter b k l) r
+
+-- The number is at most the break count.
+abbrev pub Number-most : Type 0
+Number-most = (b k : ℕ) (l : List Request) → k ≤ b → numberAfter b k l ≤ b
+
+-- The messages are at most two for each request.
+abbrev pub Messages-most : Type 0
+Messages-most = (b k : ℕ) (l : List Request) → messages b k l ≤ 2 * length l

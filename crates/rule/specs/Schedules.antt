@@ -1,0 +1,41 @@
+-- Schedules and their cost: document 01's table.
+use Prim.Native.Nat.{ℕ, zero, suc, _+_, _*_}
+use mathlib.Core.Bool.{Bool, true, false}
+use mathlib.Core.List.{List, [], _∷_}
+use Rattle.rule.specs.Pair.{Request, combine, write}
+
+-- A schedule is on or off,
+pub data Mode : Type 0 where
+  off : Mode
+  on : Mode
+
+-- and changes only with the pair's requests. `Schedule m l c` is one that is in mode m before the list l and costs c.
+-- The table's entries, by request, mode before and mode after:
+pub data Schedule : Mode → List Request → ℕ → Type 0 where
+  combine-off-off : {l : List Request} {c : ℕ} → Schedule off l c → Schedule off (combine ∷ l) (2 + c)
+  combine-off-on : {l : List Request} {c : ℕ} → Schedule on l c → Schedule off (combine ∷ l) (2 + c)
+  combine-on-on : {l : List Request} {c : ℕ} → Schedule on l c → Schedule on (combine ∷ l) (0 + c)
+  write-off-off : {l : List Request} {c : ℕ} → Schedule off l c → Schedule off (write ∷ l) (0 + c)
+  write-on-on : {l : List Request} {c : ℕ} → Schedule on l c → Schedule on (write ∷ l) (1 + c)
+  write-on-off : {l : List Request} {c : ℕ} → Schedule off l c → Schedule on (write ∷ l) (2 + c)
+  -- no requests, no cost
+  end : {m : Mode} → Schedule m [] 0
+
+-- a schedule that stays off
+unfoldable pub staysOff : {m : Mode} {l : List Request} {c : ℕ} → Schedule m l c → Bool
+staysOff (combine-off-off s) = staysOff s
+staysOff (combine-off-on s) = false
+staysOff (combine-on-on s) = false
+staysOff (write-off-off s) = staysOff s
+staysOff (write-on-on s) = false
+staysOff (write-on-off s) = false
+staysOff (end {m = off}) = true
+staysOff (end {m = on}) = false
+
+-- the paper's potential, doubled, of a schedule's mode and a lease number: 0, 4, 6 and 5, 4, 1 at 0, 1, 2
+unfoldable pub potential : Mode → ℕ → ℕ
+potential off zero = 0
+potential off (suc k) = 4 + 2 * k
+potential on zero = 5
+potential on (suc zero) = 4
+potential on (suc (suc k)) = 1 + 2 * k
