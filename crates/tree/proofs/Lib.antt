@@ -1,0 +1,11 @@
+-- The laws of trees, by what they say.
+pub mod Cases
+pub mod Folds
+pub mod Below
+pub mod Toward
+pub mod SideLaw
+pub mod Sizes
+pub mod Paths
+pub mod Lists
+pub mod Turns
+pub mod Tours

@@ -1,0 +1,41 @@
+-- How many nodes a side has, and that a walk goes to ever smaller sides.
+use mathlib.Core.Path.{_≡_, refl, sym, ap, _∙_}
+use mathlib.Core.Bool.{true}
+use mathlib.Core.Logic.{_≢_}
+use mathlib.Core.List.{List}
+use Prim.Native.Nat.{ℕ, zero, suc, _<_, _≤_}
+use native.Mathlib.Nat.{not-suc-le-zero}
+use native.Mathlib.Omega.{arith}
+use borrow.Author.Tests.{lt-ltb, ne-eqb}
+use Rattle.tree.specs.Parents.{parent, Grown}
+use Rattle.tree.specs.Sides.{adjacent, side, other}
+use Rattle.tree.specs.Operation.{fold, pick}
+use Rattle.tree.specs.Sums.{plus, size}
+use Rattle.tree.specs.Promises.{Sizes-add, Size-below}
+use Rattle.tree.proofs.Cases.{order}
+use Rattle.tree.proofs.Folds.{pull}
+use Rattle.tree.proofs.Toward.{adjacent-ne, own}
+use Rattle.tree.proofs.SideLaw.{both, side-law}
+
+pub ones : (n : ℕ) → fold plus (λ j. 1) n ≡ n
+ones zero = refl
+ones (suc n) = omega (arith, ones n)
+
+pub term-most : (f : ℕ → ℕ) (n k : ℕ) → k < n → f k ≤ fold plus f n
+term-most f zero k h = absurd (not-suc-le-zero h)
+term-most f (suc n) k h = order k n (λ a. omega (arith, term-most f n k a)) (λ e. omega (arith, ap f e)) (λ a. absurd (omega arith))
+
+pub sizes-add : Sizes-add
+sizes-add ps n grown u v hu hv b = both ps n grown plus (λ j. 1) u v (λ o. adjacent-ne ps v u b (sym o)) ∙ ones n
+
+pub size-below : Size-below
+size-below ps n grown i z h = rw (lt-ltb (parent ps i) i (grown i z h))
+
+module _ (ps : List ℕ) (n : ℕ) (grown : Grown ps n) (u v : ℕ) (hu : u < n) (b : adjacent ps v u ≡ true) where
+  pub size-least : 1 ≤ size ps n u v
+  size-least = rw (pull plus (side ps u v) (λ j. 1) n u hu (own ps n grown u v hu b)) (omega arith)
+
+  pub size-less : (w : ℕ) → w < n → adjacent ps w u ≡ true → v ≢ w → size ps n w u < size ps n u v
+  size-less w hw a d = rw (side-law ps n grown ℕ plus (λ j. 1) u v hu b) (
+      let t = term-most (λ w. pick plus (other ps u v w) (size ps n w u)) n w hw in
+      omega (arith, rw (a, ne-eqb v w d) at t))

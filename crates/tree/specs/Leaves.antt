@@ -1,0 +1,27 @@
+-- A leaf that joins a tree, and a leaf that goes.
+use mathlib.Core.Path.{_≡_}
+use mathlib.Core.Bool.{cond}
+use mathlib.Core.Logic.{_≢_}
+use mathlib.Core.List.{List}
+use Prim.Native.Nat.{ℕ, suc, _-_, _<_}
+use lib.Dec.{ltb}
+use Rattle.tree.specs.Parents.{parent}
+
+-- qs is ps with a leaf more: it has the number n and the parent p
+pub record Joins (ps : List ℕ) (n p : ℕ) (qs : List ℕ) : Type 0 where
+  pub there : p < n
+  pub old : (j : ℕ) → j < n → parent qs j ≡ parent ps j
+  pub new : parent qs n ≡ p
+
+-- numbers above x go down by one; and back
+abbrev pub lowered : ℕ → ℕ → ℕ
+lowered x j = cond (ltb x j) (j - 1) j
+
+abbrev pub raised : ℕ → ℕ → ℕ
+raised x j = cond (ltb j x) j (suc j)
+
+-- qs is ps without its leaf x, of m + 1 nodes before and m after
+pub record Goes (ps : List ℕ) (m x : ℕ) (qs : List ℕ) : Type 0 where
+  pub not-root : 0 < x
+  pub leaf : (j : ℕ) → 0 < j → j < suc m → parent ps j ≢ x
+  pub moved : (j : ℕ) → 0 < j → j < m → parent qs j ≡ lowered x (parent ps (raised x j))

@@ -1,0 +1,8 @@
+-- What a reader must believe of trees: parents, sides, what is folded over them, how a walk goes, and the promises.
+pub mod Parents
+pub mod Sides
+pub mod Operation
+pub mod Sums
+pub mod Tours
+pub mod Leaves
+pub mod Promises

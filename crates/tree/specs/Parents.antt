@@ -1,0 +1,34 @@
+-- A tree by its parent numbers: node 0 is the root, and every other node's parent is smaller than the node.
+use mathlib.Core.Path.{_≡_}
+use mathlib.Core.Bool.{Bool, true, false, cond, _&&_}
+use mathlib.Core.Logic.{_⊎_}
+use mathlib.Core.List.{List}
+use Prim.Native.Nat.{ℕ, zero, suc, _≤_, _<_}
+use lib.Dec.{eqb, ltb, leb}
+use lib.ListN.{getD}
+
+-- the parent of node i
+abbrev pub parent : List ℕ → ℕ → ℕ
+parent ps i = getD ps i 0
+
+-- each node from 1 to n - 1 has a smaller parent
+abbrev pub Grown : List ℕ → ℕ → Type 0
+Grown ps n = (i : ℕ) → 0 < i → i < n → parent ps i < i
+
+-- A tree in rule: its count is 1 to 256, each parent is smaller than its child, and entries not used are zero.
+pub record InRule (n : ℕ) (ps : List ℕ) : Type 0 where
+  pub some : 1 ≤ n
+  pub few : n ≤ 256
+  pub grown : Grown ps n
+  pub unused : (i : ℕ) → i < 256 → (i ≡ 0) ⊎ (n ≤ i) → parent ps i ≡ 0
+
+-- the same as a test: entry by entry
+unfoldable pub entryInRule : ℕ → List ℕ → ℕ → Bool
+entryInRule n ps i = cond (ltb 0 i && ltb i n) (ltb (parent ps i) i) (eqb (parent ps i) 0)
+
+unfoldable pub entriesInRule : ℕ → List ℕ → ℕ → Bool
+entriesInRule n ps zero = true
+entriesInRule n ps (suc i) = entriesInRule n ps i && entryInRule n ps i
+
+unfoldable pub inRule : ℕ → List ℕ → Bool
+inRule n ps = leb 1 n && (leb n 256 && entriesInRule n ps 256)

@@ -1,0 +1,47 @@
+-- How a walk goes through a tree, and what it says on the way, in order.
+use mathlib.Core.Path.{_≡_}
+use mathlib.Core.Bool.{Bool, true, false, cond, _&&_}
+use mathlib.Core.Logic.{_≢_}
+use mathlib.Core.List.{List, [], _∷_, _++_}
+use Prim.Native.Nat.{ℕ, zero, suc, _<_}
+use Rattle.tree.specs.Sides.{adjacent, other}
+
+-- the k-th candidate of node u in a tree of n nodes, k from 0 to n - 1: ascending
+unfoldable pub turn : ℕ → ℕ → ℕ → ℕ
+turn n u k = k
+
+-- what is said of all candidates of u, in turn
+unfoldable pub joined : {M : Type 0} → (ℕ → List M) → ℕ → List M
+joined says zero = []
+joined says (suc k) = joined says k ++ says k
+
+abbrev pub round : {M : Type 0} → ℕ → ℕ → (ℕ → List M) → List M
+round n u says = joined (λ k. says (turn n u k)) n
+
+-- l where the test holds
+abbrev pub when : {M : Type 0} → Bool → List M → List M
+when b l = cond b l []
+
+-- A walk that is at v and goes to its neighbour u says `before u v`, goes on from u to the neighbours w other than v where `go w u`, and says `after u v`.
+-- It counts down a falling number, and stops at 0.
+unfoldable pub visit : {M : Type 0} → List ℕ → ℕ → (ℕ → ℕ → Bool) → (ℕ → ℕ → List M) → (ℕ → ℕ → List M) → ℕ → ℕ → ℕ → List M
+visit ps n go before after zero u v = []
+visit ps n go before after (suc k) u v =
+    before u v ++ (round n u (λ w. when (other ps u v w && go w u) (visit ps n go before after k w u)) ++ after u v)
+
+-- the walk from x
+abbrev pub tour : {M : Type 0} → List ℕ → ℕ → (ℕ → ℕ → Bool) → (ℕ → ℕ → List M) → (ℕ → ℕ → List M) → ℕ → ℕ → List M
+tour ps n go before after k x = round n x (λ w. when (other ps x x w && go w x) (visit ps n go before after k w x))
+
+-- The test of a walk is closed outward: where it lets the walk go to r from u, it lets it go to u from any other neighbour v.
+abbrev pub Closed : List ℕ → ℕ → (ℕ → ℕ → Bool) → Type 0
+Closed ps n go = (r u v : ℕ) → r < n → u < n → v < n → adjacent ps r u ≡ true → adjacent ps v u ≡ true → r ≢ v → go r u ≡ true → go u v ≡ true
+
+-- those elements of a list that pass the test, in order
+abbrev pub keepIf : {M : Type 0} → Bool → M → List M → List M
+keepIf true m l = m ∷ l
+keepIf false m l = l
+
+unfoldable pub kept : {M : Type 0} → (M → Bool) → List M → List M
+kept test [] = []
+kept test (m ∷ l) = keepIf (test m) m (kept test l)
