@@ -2,7 +2,8 @@
 use mathlib.Core.Path.{_≡_, refl, ap}
 use mathlib.Core.Bool.{true, false, _||_}
 use mathlib.Core.List.{List}
-use Prim.Native.Nat.{ℕ, zero, suc, _<_, _≤_}
+use mathlib.Core.Logic.{_≢_}
+use Prim.Native.Nat.{ℕ, zero, suc, _-_, _<_, _≤_}
 use native.Mathlib.Nat.{not-suc-le-zero, le-refl}
 use native.Mathlib.Omega.{arith}
 use lib.Dec.{eqb}
@@ -18,6 +19,29 @@ below-self ps (suc i) = rw (eq-eqb (suc i) (suc i) refl)
 pub below-root : (ps : List ℕ) (i : ℕ) → below ps i 0 ≡ eqb 0 i
 unfolding below climb
 below-root ps i = refl
+
+-- the turns of a climb, in any list of parents
+module _ (ps : List ℕ) (i : ℕ) where
+  pub climb-ends : (j : ℕ) → climb ps i 0 j ≡ eqb j i
+  unfolding climb
+  climb-ends j = refl
+
+  pub climb-root : (k : ℕ) → climb ps i k 0 ≡ eqb 0 i
+  unfolding climb
+  climb-root zero = refl
+  climb-root (suc k) = refl
+
+  pub climb-meets : (k j : ℕ) → j ≡ i → climb ps i k j ≡ true
+  unfolding climb
+  climb-meets zero j e = eq-eqb j i e
+  climb-meets (suc k) zero e = eq-eqb zero i e
+  climb-meets (suc k) (suc j) e = rw (eq-eqb (suc j) i e)
+
+  pub climb-on : (k j : ℕ) → 0 < k → 0 < j → j ≢ i → climb ps i k j ≡ climb ps i (k - 1) (parent ps j)
+  unfolding climb
+  climb-on zero j z h d = absurd (not-suc-le-zero z)
+  climb-on (suc k) zero z h d = absurd (not-suc-le-zero h)
+  climb-on (suc k) (suc j) z h d = let e : suc k - 1 ≡ k = omega arith in rw (ne-eqb (suc j) i d, e)
 
 module _ (ps : List ℕ) (n : ℕ) (grown : Grown ps n) where
   -- more steps than the node's number find nothing more

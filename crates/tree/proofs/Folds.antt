@@ -85,6 +85,14 @@ module _ {A : Type 0} (op : Op A) where
   pub same-nodes : (P Q : ℕ → Bool) (f : ℕ → A) (n : ℕ) → ((j : ℕ) → j < n → P j ≡ Q j) → aggregate op f P n ≡ aggregate op f Q n
   same-nodes P Q f n h = same (λ j. pick op (P j) (f j)) (λ j. pick op (Q j) (f j)) n (λ j l. ap (λ b. pick op b (f j)) (h j l))
 
+  -- the same values at those nodes
+  pub same-where : (P : ℕ → Bool) (f g : ℕ → A) (n : ℕ) → ((j : ℕ) → j < n → P j ≡ true → f j ≡ g j) → aggregate op f P n ≡ aggregate op g P n
+  same-where P f g n h = same (λ j. pick op (P j) (f j)) (λ j. pick op (P j) (g j)) n (λ j l. one (P j) (f j) (g j) (h j l))
+    where
+      one : (b : Bool) (x y : A) → (b ≡ true → x ≡ y) → pick op b x ≡ pick op b y
+      one true x y e = e refl
+      one false x y e = refl
+
   -- the nodes that pass a test and those that do not are all
   pub parts : (P : ℕ → Bool) (f : ℕ → A) (n : ℕ) → aggregate op f P n ⊕ aggregate op f (λ j. not (P j)) n ≡ fold op f n
   parts P f n =

@@ -21,7 +21,7 @@ module _ (ps : List ℕ) (n : ℕ) (grown : Grown ps n) {A : Type 0} (op : Op A)
 
   infixl 60 _⊕_
   -- the sides of those neighbours of u that pass Q hold together the nodes that pass R, if Q and R agree along each side
-  fan : (u : ℕ) (Q R : ℕ → Bool) → u < n
+  pub fan : (u : ℕ) (Q R : ℕ → Bool) → u < n
       → ((w j : ℕ) → j < n → side ps w u j ≡ true → adjacent ps w u ≡ true → Q w ≡ R j)
       → aggregate op (λ w. aggregate op f (side ps w u) n) (λ w. adjacent ps w u && Q w) n ≡ aggregate op f (λ j. not (eqb j u) && R j) n
   fan u Q R hu k =

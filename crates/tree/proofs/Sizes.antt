@@ -17,16 +17,16 @@ use Rattle.tree.proofs.Folds.{pull}
 use Rattle.tree.proofs.Toward.{adjacent-ne, own}
 use Rattle.tree.proofs.SideLaw.{both, side-law}
 
-pub ones : (n : ℕ) → fold plus (λ j. 1) n ≡ n
-ones zero = refl
-ones (suc n) = omega (arith, ones n)
+pub all-ones : (n : ℕ) → fold plus (λ j. 1) n ≡ n
+all-ones zero = refl
+all-ones (suc n) = omega (arith, all-ones n)
 
 pub term-most : (f : ℕ → ℕ) (n k : ℕ) → k < n → f k ≤ fold plus f n
 term-most f zero k h = absurd (not-suc-le-zero h)
 term-most f (suc n) k h = order k n (λ a. omega (arith, term-most f n k a)) (λ e. omega (arith, ap f e)) (λ a. absurd (omega arith))
 
 pub sizes-add : Sizes-add
-sizes-add ps n grown u v hu hv b = both ps n grown plus (λ j. 1) u v (λ o. adjacent-ne ps v u b (sym o)) ∙ ones n
+sizes-add ps n grown u v hu hv b = both ps n grown plus (λ j. 1) u v (λ o. adjacent-ne ps v u b (sym o)) ∙ all-ones n
 
 pub size-below : Size-below
 size-below ps n grown i z h = rw (lt-ltb (parent ps i) i (grown i z h))

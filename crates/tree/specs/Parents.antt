@@ -22,13 +22,13 @@ pub record InRule (n : ℕ) (ps : List ℕ) : Type 0 where
   pub grown : Grown ps n
   pub unused : (i : ℕ) → i < 256 → (i ≡ 0) ⊎ (n ≤ i) → parent ps i ≡ 0
 
--- the same as a test: entry by entry
-unfoldable pub entryInRule : ℕ → List ℕ → ℕ → Bool
-entryInRule n ps i = cond (ltb 0 i && ltb i n) (ltb (parent ps i) i) (eqb (parent ps i) 0)
+-- the same as a test: the entry p at i, all entries below i, the tree
+unfoldable pub entryInRule : ℕ → ℕ → ℕ → Bool
+entryInRule n i p = cond (ltb 0 i && ltb i n) (ltb p i) (eqb p 0)
 
 unfoldable pub entriesInRule : ℕ → List ℕ → ℕ → Bool
 entriesInRule n ps zero = true
-entriesInRule n ps (suc i) = entriesInRule n ps i && entryInRule n ps i
+entriesInRule n ps (suc i) = entriesInRule n ps i && entryInRule n i (parent ps i)
 
 unfoldable pub inRule : ℕ → List ℕ → Bool
 inRule n ps = leb 1 n && (leb n 256 && entriesInRule n ps 256)

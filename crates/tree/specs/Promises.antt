@@ -6,8 +6,7 @@ use mathlib.Core.List.{List, _++_}
 use Prim.Native.Nat.{ℕ, suc, _+_, _<_, _≤_}
 use lib.Dec.{eqb}
 use lib.IntN.{ℤ, _+ℤ_}
-use mir.Syntax.{w32, w64}
-use mir.Val.{SFits}
+use Rattle.fields.specs.Twos.{within}
 use Rattle.tree.specs.Parents.{parent, Grown, InRule, inRule}
 use Rattle.tree.specs.Sides.{adjacent, side, pointsTo, other}
 use Rattle.tree.specs.Operation.{Op, fold, aggregate}
@@ -97,16 +96,17 @@ Go-side = (ps : List ℕ) (m x : ℕ) (qs : List ℕ) → Grown ps (suc m) → G
 abbrev pub Size-below : Type 0
 Size-below = (ps : List ℕ) (n : ℕ) → Grown ps n → (i : ℕ) → 0 < i → i < n → sizeBelow ps n i ≡ size ps n i (parent ps i)
 
--- Ranges add: a value of 32 bits is in the range of one, and the aggregate over k nodes in that of k.
+-- A value is in the range of one node exactly where it has 32 bits,
 abbrev pub Range-of-one : Type 0
-Range-of-one = (z : ℤ) → Range 1 z ↔ SFits w32 z
+Range-of-one = (z : ℤ) → Range 1 z ↔ (within 32 z ≡ true)
 
+-- ranges add, so that an aggregate over k nodes is in the range of k,
 abbrev pub Range-adds : Type 0
 Range-adds = (j k : ℕ) (y z : ℤ) → Range j y → Range k z → Range (j + k) (y +ℤ z)
 
 abbrev pub Range-of-nodes : Type 0
 Range-of-nodes = (f : ℕ → ℤ) (test : ℕ → Bool) (n : ℕ) → ((j : ℕ) → j < n → Range 1 (f j)) → Range (aggregate plus (λ j. 1) test n) (aggregate sum f test n)
 
--- The range of all nodes of a tree fits 64 bits.
+-- and the range of up to 256 nodes has the 40 bits of a message.
 abbrev pub Range-fits : Type 0
-Range-fits = (k : ℕ) (z : ℤ) → k ≤ 256 → Range k z → SFits w64 z
+Range-fits = (k : ℕ) (z : ℤ) → k ≤ 256 → Range k z → within 40 z ≡ true

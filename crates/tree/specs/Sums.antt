@@ -5,6 +5,7 @@ use mathlib.Core.List.{List, [], _∷_, _++_}
 use Prim.Native.Nat.{ℕ, zero, suc, _+_, _*_}
 use native.Mathlib.Nat.{add-assoc, add-comm}
 use lib.Dec.{ltb}
+use lib.ListN.{replicate}
 use lib.IntN.{ℤ, pos, negℤ, _+ℤ_, +ℤ-assoc, +ℤ-comm}
 use lib.Signed.{leZ}
 use Rattle.tree.specs.Parents.{inRule}
@@ -25,14 +26,18 @@ size ps n u v = aggregate plus (λ j. 1) (side ps u v) n
 abbrev pub sizeBelow : List ℕ → ℕ → ℕ → ℕ
 sizeBelow ps n i = aggregate plus (λ j. 1) (below ps i) n
 
+-- 1 for each of n nodes
+abbrev pub ones : ℕ → ℕ → ℕ
+ones n i = cond (ltb i n) 1 0
+
 -- f 0 to f (n - 1) as a list
 unfoldable pub listed : (ℕ → ℕ) → ℕ → List ℕ
 listed f zero = []
 listed f (suc n) = listed f n ++ (f n ∷ [])
 
--- the sizes below all nodes of a tree, 0 where there is no such node, and 0 throughout where the tree is out of rule
+-- the sizes below all nodes; a tree out of rule has none
 unfoldable pub sizes : ℕ → List ℕ → List ℕ
-sizes n ps = listed (λ i. cond (inRule n ps && ltb i n) (sizeBelow ps n i) 0) 256
+sizes n ps = cond (inRule n ps) (listed (sizeBelow ps n) 256) (replicate 256 0)
 
 -- a sum of k values of 32 bits is from -k x 2^31 to k x (2^31 - 1)
 unfoldable pub inRange : ℕ → ℤ → Bool

@@ -1,0 +1,66 @@
+// A node's parent, its neighbours, and the way to the root.
+ghost use mathlib.Core.Path.{_≡_};
+ghost use lib.ListN.{length};
+ghost use Rattle.tree.specs.Parents as specs;
+ghost use Rattle.tree.specs.Sides as sides;
+
+// The parent of node i, 0 where there is no entry.
+pub fn parent(parents: &[u8; 256], i: usize) -> usize
+    requires { ⌜ length (now parents) ≡ 256 ⌝ }
+    ensures { λ r. ⌜ r ≡ specs.parent (now (parents .entry)) i ⌝ }
+{
+    if i < 256 {
+        return node(parents[i]);
+    }
+    0
+}
+
+// A node's number as an index.
+pub fn node(x: u8) -> usize
+    ensures { λ r. ⌜ r ≡ x ⌝ }
+{
+    x as usize
+}
+
+pub fn adjacent(parents: &[u8; 256], u: usize, w: usize) -> bool
+    requires { ⌜ length (now parents) ≡ 256 ⌝ }
+    ensures { λ r. ⌜ r ≡ sides.adjacent (now (parents .entry)) u w ⌝ }
+{
+    if u < w {
+        return parent(parents, w) == u;
+    }
+    if w < u {
+        return parent(parents, u) == w;
+    }
+    false
+}
+
+pub fn neighbours(count: usize, parents: &[u8; 256], u: usize, w: usize) -> bool
+    requires { ⌜ length (now parents) ≡ 256 ⌝ }
+    ensures { λ r. ⌜ r ≡ sides.neighbours count (now (parents .entry)) u w ⌝ }
+{
+    if (u < count) & (w < count) {
+        return adjacent(parents, u, w);
+    }
+    false
+}
+
+// Climbs from j until it meets i, the root, or has taken as many steps as j is large.
+pub fn is_below(parents: &[u8; 256], i: usize, j: usize) -> bool
+    requires { ⌜ length (now parents) ≡ 256 ⌝ }
+    ensures { λ r. ⌜ r ≡ sides.below (now (parents .entry)) i j ⌝ }
+{
+    let mut at = j;
+    let mut left = j;
+    while 0 < left {
+        if at == i {
+            return true;
+        }
+        if at == 0 {
+            return false;
+        }
+        at = parent(parents, at);
+        left -= 1;
+    }
+    at == i
+}

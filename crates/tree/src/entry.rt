@@ -1,0 +1,38 @@
+// Which entries of a tree are in rule.
+ghost use mathlib.Core.Path.{_≡_};
+ghost use Rattle.tree.specs.Parents.{entryInRule, entriesInRule, inRule};
+
+pub fn in_rule(count: usize, parents: &[u8; 256]) -> bool
+    ensures { λ r. ⌜ r ≡ inRule count (now (parents .entry)) ⌝ }
+{
+    if count < 1 {
+        return false;
+    }
+    if 256 < count {
+        return false;
+    }
+    entries_in_rule(count, parents)
+}
+
+pub fn entries_in_rule(count: usize, parents: &[u8; 256]) -> bool
+    ensures { λ r. ⌜ r ≡ entriesInRule count (now (parents .entry)) 256 ⌝ }
+{
+    let mut i: usize = 0;
+    while i < 256 {
+        if !entry_in_rule(count, i, parents[i]) {
+            return false;
+        }
+        i += 1;
+    }
+    true
+}
+
+// The entry at i: a parent smaller than its child, or zero where it is not used.
+pub fn entry_in_rule(count: usize, i: usize, parent: u8) -> bool
+    ensures { λ r. ⌜ r ≡ entryInRule count i parent ⌝ }
+{
+    if (0 < i) & (i < count) {
+        return (parent as usize) < i;
+    }
+    parent == 0
+}

@@ -1,0 +1,37 @@
+// The sizes of all sides, in one pass from the last node down.
+use crate::edge;
+ghost use mathlib.Core.Path.{_≡_};
+ghost use Prim.Native.Nat.{_≤_, _<_};
+ghost use Rattle.tree.specs.Parents.{Grown};
+ghost use Rattle.tree.specs.Sums.{sizeBelow, listed, ones};
+
+// A node is complete when its turn comes, since its children are larger: it is then added to its
+// parent.
+pub fn sizes(count: usize, parents: &[u8; 256]) -> [u16; 256]
+    requires { ⌜ (1 ≤ count) × ((count ≤ 256) × Grown (now parents) count) ⌝ }
+    ensures { λ r. ⌜ r ≡ listed (sizeBelow (now (parents .entry)) count) 256 ⌝ }
+{
+    let mut size = alone(count);
+    let mut next = count;
+    while 1 < next {
+        let child = next - 1;
+        let parent = edge::node(parents[child]);
+        size[parent] = size[parent] + size[child];
+        next = child;
+    }
+    size
+}
+
+// Every node by itself.
+pub fn alone(count: usize) -> [u16; 256]
+    requires { ⌜ count ≤ 256 ⌝ }
+    ensures { λ r. ⌜ r ≡ listed (ones count) 256 ⌝ }
+{
+    let mut size = [0u16; 256];
+    let mut node: usize = 0;
+    while node < count {
+        size[node] = 1;
+        node += 1;
+    }
+    size
+}
