@@ -1,24 +1,26 @@
 -- The pass from the last node down: when a node's turn comes, it has all that is below it.
-use mathlib.Core.Path.{_≡_, refl, sym, ap, _∙_}
+use mathlib.Core.Path.{_≡_, refl, sym, ap, ap₂, _∙_}
 use mathlib.Core.Bool.{Bool, true, false, not, _&&_, _||_, false≢true, and-false, and-true, or-true, and-eq-true-iff}
 use mathlib.Core.Logic.{_≢_}
 use mathlib.Core.List.{List}
-use Prim.Native.Nat.{ℕ, zero, suc, _+_, _<_, _≤_}
+use Prim.Native.Nat.{ℕ, zero, suc, _+_, _-_, _<_, _≤_}
 use native.Mathlib.Nat.{le-refl}
 use native.Mathlib.Decide.{ℕ-discrete, decLt}
 use native.Mathlib.Omega.{arith}
 use lib.Dec.{eqb, ltb, leb}
+use lib.ListN.{getD, set}
 use borrow.Author.Tests.{eqb-true, lt-ltb, le-ltb, ltb-true, le-leb, lt-leb, eq-eqb, ne-eqb, not-true}
 use Rattle.tree.specs.Parents.{parent, Grown}
 use Rattle.tree.specs.Sides.{below, adjacent, side}
 use Rattle.tree.specs.Operation.{pick, aggregate}
-use Rattle.tree.specs.Sums.{plus, sizeBelow, ones}
+use Rattle.tree.specs.Sums.{plus, sizeBelow, ones, listed}
 use Rattle.tree.proofs.Cases.{either, order}
 use Rattle.tree.proofs.Folds.{related, same-nodes, same-where, zeros, pull}
 use Rattle.tree.proofs.Below.{below-self, below-root, below-step, below-lt, inherited}
 use Rattle.tree.proofs.Toward.{adjacent-ne}
 use Rattle.tree.proofs.SideLaw.{fan}
 use Rattle.tree.proofs.Sizes.{all-ones}
+use Rattle.tree.proofs.Listed.{listed-read, listed-set}
 
 -- w is a child of i
 abbrev child : List ℕ → ℕ → ℕ → Bool
@@ -140,3 +142,30 @@ module _ (ps : List ℕ) (n : ℕ) (grown : Grown ps n) where
         (λ e. rw (eq-eqb w d e, lt-leb (suc d) w (omega arith)))
         (λ o. rw (ne-eqb w d o) (later p w o))) in
         omega (arith, out, rest, held-all (suc d) d (omega arith) h)
+
+-- the turn as a loop makes it: c is the next node's number and one more, p its parent, l what is held
+module _ (ps : List ℕ) (n : ℕ) (small : n ≤ 256) (grown : Grown ps n) (l : List ℕ) (c p : ℕ) (z : 1 < c) (h : c ≤ n)
+    (now : l ≡ listed (held ps n c) 256) (is : p ≡ parent ps (c - 1)) where
+  pub parent-inside : p < c - 1
+  parent-inside = omega (arith, grown (c - 1) (omega arith) (omega arith), is)
+
+  reads : (i : ℕ) → i < n → getD l i 0 ≡ held ps n c i
+  reads i k = ap (λ s. getD s i 0) now ∙ listed-read (held ps n c) 256 i (omega arith)
+
+  next-is : suc (c - 1) ≡ c
+  next-is = omega arith
+
+  passed : held ps n (c - 1) p ≡ getD l p 0 + getD l (c - 1) 0
+  passed =
+      ap (held ps n (c - 1)) is
+      ∙ turn-parent ps n grown (c - 1) (omega arith) (omega arith) ∙ ap (λ m. held ps n m (parent ps (c - 1)) + held ps n m (c - 1)) next-is
+      ∙ ap₂ _+_ (ap (held ps n c) (sym is) ∙ sym (reads p (omega (arith, parent-inside)))) (sym (reads (c - 1) (omega arith)))
+
+  pub sum-most : getD l p 0 + getD l (c - 1) 0 ≤ n
+  sum-most = omega (arith, passed, held-most ps n grown (c - 1) p (omega (arith, parent-inside)))
+
+  pub pass-turn : set l p (getD l p 0 + getD l (c - 1) 0) ≡ listed (held ps n (c - 1)) 256
+  pass-turn =
+      ap (λ s. set s p (getD l p 0 + getD l (c - 1) 0)) now
+      ∙ listed-set (held ps n c) (held ps n (c - 1)) 256 p (getD l p 0 + getD l (c - 1) 0) (omega (arith, parent-inside)) passed
+      (λ i k d. ap (λ m. held ps n m i) (sym next-is) ∙ turn-else ps n grown (c - 1) (omega arith) (omega arith) i (λ o. d (o ∙ sym is)))

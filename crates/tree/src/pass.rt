@@ -1,13 +1,24 @@
 // The sizes of all sides, in one pass from the last node down.
 use crate::edge;
+use crate::entry;
 ghost use mathlib.Core.Path.{_≡_};
 ghost use Prim.Native.Nat.{_≤_, _<_};
 ghost use Rattle.tree.specs.Parents.{Grown};
+ghost use Rattle.tree.specs.Sums as spec;
 ghost use Rattle.tree.specs.Sums.{sizeBelow, listed, ones};
+
+pub fn sizes(count: usize, parents: &[u8; 256]) -> [u16; 256]
+    ensures { λ r. ⌜ r ≡ spec.sizes count (now (parents .entry)) ⌝ }
+{
+    if entry::in_rule(count, parents) {
+        return summed(count, parents);
+    }
+    [0; 256]
+}
 
 // A node is complete when its turn comes, since its children are larger: it is then added to its
 // parent.
-pub fn sizes(count: usize, parents: &[u8; 256]) -> [u16; 256]
+pub fn summed(count: usize, parents: &[u8; 256]) -> [u16; 256]
     requires { ⌜ (1 ≤ count) × ((count ≤ 256) × Grown (now parents) count) ⌝ }
     ensures { λ r. ⌜ r ≡ listed (sizeBelow (now (parents .entry)) count) 256 ⌝ }
 {
