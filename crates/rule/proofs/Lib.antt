@@ -5,3 +5,4 @@ pub mod Configurations
 pub mod Bound
 pub mod Rounds
 pub mod Outcomes
+pub mod Examples

@@ -87,6 +87,7 @@ module _ (ps : List ℕ) (n : ℕ) (grown : Grown ps n) where
   held-all c d l h = rw (lt-ltb d n h) (ap (λ k. 1 + k) (same-nodes plus (λ w. leb c w && child ps d w) (child ps d) (sizeBelow ps n) n (λ w k. either (decLt d w)
       (λ m. rw (le-leb c w (omega arith)))
       (λ m. rw (child-not ps d w (omega arith)) (and-false (leb c w))))) ∙ sym (below-law d h))
+
   -- and at last so do all entries: those of no node hold nothing.
   pub held-last : (i : ℕ) → held ps n 1 i ≡ sizeBelow ps n i
   held-last i = order i n

@@ -14,3 +14,5 @@ pub mod Turns
 pub mod Tours
 pub mod Leaves
 pub mod Ranges
+pub mod Outcomes
+pub mod Examples

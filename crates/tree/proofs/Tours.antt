@@ -12,7 +12,7 @@ use borrow.Author.Tests.{eqb-false, eq-eqb, ne-eqb, not-true}
 use Rattle.tree.specs.Parents.{Grown}
 use Rattle.tree.specs.Sides.{adjacent, side, other}
 use Rattle.tree.specs.Sums.{size}
-use Rattle.tree.specs.Tours.{round, when, visit, tour, Closed, kept}
+use Rattle.tree.specs.Tours.{round, when, visit, tour, Closed, kept, OfItsPair}
 use Rattle.tree.specs.Promises.{Visited-once, Count-is-enough}
 use Rattle.tree.proofs.Cases.{either, never}
 use Rattle.tree.proofs.Toward.{adjacent-ne, adjacent-sym, complementary, next, unique, self, not-own, own, nested}
@@ -111,39 +111,46 @@ module _ (ps : List ℕ) (n : ℕ) (grown : Grown ps n) (go : ℕ → ℕ → Bo
       across d o true p = ap (λ s. s && true) (edge ps n grown b a v u hv hu p c o d)
       across d o false p = and-false (side ps b a v) ∙ sym (and-false (side ps b a u))
 
-  module _ (before after : ℕ → ℕ → List M) (about : M → Bool)
-      (is-before : (w u : ℕ) → w < n → u < n → adjacent ps u w ≡ true → kept about (before w u) ≡ when (eqb a w && eqb b u) (before a b))
-      (is-after : (w u : ℕ) → w < n → u < n → adjacent ps u w ≡ true → kept about (after w u) ≡ when (eqb a w && eqb b u) (after a b)) where
+  module _ (about : ℕ → ℕ → M → Bool) (before after : ℕ → ℕ → List M) (of-before : OfItsPair ps n about before) (of-after : OfItsPair ps n about after) where
+    abbrev told : List M → List M
+    told = kept (about a b)
+
+    -- what is said of (a,b) on going to w from u
+    of-pair : (says : ℕ → ℕ → List M) → OfItsPair ps n about says → (w u : ℕ) → w < n → u < n → adjacent ps u w ≡ true → told (says w u) ≡ when (eqb a w && eqb b u) (says a b)
+    of-pair says is w u hw hu c = is a b w u hw hu c ∙ either (ℕ-discrete a w)
+        (λ e. either (ℕ-discrete b u) (λ p. rw (eq-eqb a w e, eq-eqb b u p, e, p)) (λ p. rw (ne-eqb b u p, and-false)))
+        (λ e. rw (ne-eqb a w e))
+
     -- what is kept of a round is the round of what is kept
-    inside : (k u v : ℕ) → u < n → kept about (round n u (λ w. when (other ps u v w && go w u) (visit ps n go before after k w u)))
-        ≡ round n u (λ w. when (other ps u v w && go w u) (kept about (visit ps n go before after k w u)))
+    inside : (k u v : ℕ) → u < n → told (round n u (λ w. when (other ps u v w && go w u) (visit ps n go before after k w u)))
+        ≡ round n u (λ w. when (other ps u v w && go w u) (told (visit ps n go before after k w u)))
     inside k u v hu =
-        kept-round n u hu about (λ w. when (other ps u v w && go w u) (visit ps n go before after k w u))
-        ∙ round-same n u hu (λ w. kept about (when (other ps u v w && go w u) (visit ps n go before after k w u))) (λ w. when (other ps u v w && go w u) (kept about (visit ps n go before after k w u)))
-        (λ w i. kept-when about (other ps u v w && go w u) (visit ps n go before after k w u))
+        kept-round n u hu (about a b) (λ w. when (other ps u v w && go w u) (visit ps n go before after k w u))
+        ∙ round-same n u hu (λ w. told (when (other ps u v w && go w u) (visit ps n go before after k w u))) (λ w. when (other ps u v w && go w u) (told (visit ps n go before after k w u)))
+        (λ w i. kept-when (about a b) (other ps u v w && go w u) (visit ps n go before after k w u))
 
     once : (k u v : ℕ) → size ps n u v ≤ k → u < n → v < n → adjacent ps v u ≡ true → go u v ≡ true
-        → kept about (visit ps n go before after k u v) ≡ when (region ps go u v a b) (before a b ++ after a b)
+        → told (visit ps n go before after k u v) ≡ when (region ps go u v a b) (before a b ++ after a b)
     unfolding visit
     once zero u v l hu hv c g = absurd (omega (arith, size-least ps n grown u v hu c))
     once (suc k) u v l hu hv c g =
-        kept-append about (before u v) (gap ++ after u v)
-        ∙ ap₂ _++_ (is-before u v hu hv c) (kept-append about gap (after u v) ∙ ap₂ _++_ (inside k u v hu) (is-after u v hu hv c))
-        ∙ gather (before a b) (after a b) u v hu hv c g (λ w. kept about (visit ps n go before after k w u)) (λ w hw t.
+        kept-append (about a b) (before u v) (gap ++ after u v)
+        ∙ ap₂ _++_ (of-pair before of-before u v hu hv c) (kept-append (about a b) gap (after u v) ∙ ap₂ _++_ (inside k u v hu) (of-pair after of-after u v hu hv c))
+        ∙ gather (before a b) (after a b) u v hu hv c g (λ w. told (visit ps n go before after k w u)) (λ w hw t.
         let e = goes ps go u v w t in
         once k w u (omega (arith, size-less ps n grown u v hu c w hw (e .0) (e .1))) hw hu (adjacent-sym ps u w ∙ e .0) (e .2))
       where
         gap : List M
         gap = round n u (λ w. when (other ps u v w && go w u) (visit ps n go before after k w u))
 
-    from-start : (k x : ℕ) → n ≤ k → x < n → kept about (tour ps n go before after k x) ≡ when ((side ps b a x && adjacent ps b a) && go a b) (before a b ++ after a b)
+    from-start : (k x : ℕ) → n ≤ k → x < n → told (tour ps n go before after k x) ≡ when ((side ps b a x && adjacent ps b a) && go a b) (before a b ++ after a b)
     from-start k x enough hx = inside k x x hx ∙ either (ℕ-discrete a x)
         (λ e. none-gone (before a b ++ after a b) x x hx F at (λ w t. rw e (not-own ps n grown x w hx (goes ps go x x w t .0))) ∙ rw (e, self ps n grown x b hx))
         (λ d. let q = next ps n grown x a hx ha d in
         gone (before a b ++ after a b) x x hx F at (q .0) (q .1) (q .2) (q .3) ∙ rw (ne-eqb x (q .0) (λ o. adjacent-ne ps (q .0) x (q .2) (sym o))))
       where
         F : ℕ → List M
-        F w = kept about (visit ps n go before after k w x)
+        F w = told (visit ps n go before after k w x)
 
         at : (w : ℕ) → w < n → (other ps x x w && go w x) ≡ true → F w ≡ when (region ps go w x a b) (before a b ++ after a b)
         at w hw t =
@@ -152,7 +159,7 @@ module _ (ps : List ℕ) (n : ℕ) (grown : Grown ps n) (go : ℕ → ℕ → Bo
             once k w x (omega (arith, sizes-add ps n grown w x hw hx c)) hw hx c (e .2)
 
 pub visited-once : Visited-once
-visited-once ps n grown go closed M before after a b ha hb about is-before is-after = from-start ps n grown go closed a b ha hb before after about is-before is-after
+visited-once ps n grown go closed M about before after of-before of-after a b ha hb = from-start ps n grown go closed a b ha hb about before after of-before of-after
 
 module _ (ps : List ℕ) (n : ℕ) (grown : Grown ps n) {M : Type 0} (go : ℕ → ℕ → Bool) (before after : ℕ → ℕ → List M) where
   -- two falling numbers that are both enough for all neighbours gone to

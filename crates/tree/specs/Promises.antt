@@ -11,7 +11,7 @@ use Rattle.tree.specs.Parents.{parent, Grown, InRule, inRule}
 use Rattle.tree.specs.Sides.{adjacent, side, pointsTo, other}
 use Rattle.tree.specs.Operation.{Op, fold, aggregate}
 use Rattle.tree.specs.Sums.{plus, sum, size, sizeBelow, Range}
-use Rattle.tree.specs.Tours.{turn, when, tour, Closed, kept}
+use Rattle.tree.specs.Tours.{turn, when, tour, Closed, kept, OfItsPair}
 use Rattle.tree.specs.Leaves.{Joins, Goes, raised}
 
 -- The test of a tree says what it should.
@@ -53,15 +53,12 @@ Whole = (ps : List ℕ) (n : ℕ) → Grown ps n → (A : Type 0) (op : Op A) (f
 abbrev pub Any-order : Type 1
 Any-order = (n u : ℕ) → u < n → (A : Type 0) (op : Op A) (f : ℕ → A) → fold op (λ k. f (turn n u k)) n ≡ fold op f n
 
--- What a walk from x says of the pair (a,b) is all that it says on going to a from b, once, where (a,b) points to x and the walk's test lets it; else nothing.
--- `about` is the test of what is said of (a,b).
+-- Of the pair (a,b) a walk from x says all that there is to say on going to a from b, once, where (a,b) points to x and the walk's test lets it, and else nothing.
 abbrev pub Visited-once : Type 1
 Visited-once = (ps : List ℕ) (n : ℕ) → Grown ps n → (go : ℕ → ℕ → Bool) → Closed ps n go
-    → (M : Type 0) (before after : ℕ → ℕ → List M) (a b : ℕ) → a < n → b < n → (about : M → Bool)
-    → ((w u : ℕ) → w < n → u < n → adjacent ps u w ≡ true → kept about (before w u) ≡ when (eqb a w && eqb b u) (before a b))
-    → ((w u : ℕ) → w < n → u < n → adjacent ps u w ≡ true → kept about (after w u) ≡ when (eqb a w && eqb b u) (after a b))
-    → (k x : ℕ) → n ≤ k → x < n
-    → kept about (tour ps n go before after k x) ≡ when ((pointsTo ps a b x && adjacent ps b a) && go a b) (before a b ++ after a b)
+    → (M : Type 0) (about : ℕ → ℕ → M → Bool) (before after : ℕ → ℕ → List M) → OfItsPair ps n about before → OfItsPair ps n about after
+    → (a b : ℕ) → a < n → b < n → (k x : ℕ) → n ≤ k → x < n
+    → kept (about a b) (tour ps n go before after k x) ≡ when ((pointsTo ps a b x && adjacent ps b a) && go a b) (before a b ++ after a b)
 
 -- A falling number of the count is enough for a walk: a larger one changes nothing.
 abbrev pub Count-is-enough : Type 1

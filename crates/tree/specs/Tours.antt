@@ -4,6 +4,7 @@ use mathlib.Core.Bool.{Bool, true, false, cond, _&&_}
 use mathlib.Core.Logic.{_≢_}
 use mathlib.Core.List.{List, [], _∷_, _++_}
 use Prim.Native.Nat.{ℕ, zero, suc, _<_}
+use lib.Dec.{eqb}
 use Rattle.tree.specs.Sides.{adjacent, other}
 
 -- the k-th candidate of node u in a tree of n nodes, k from 0 to n - 1: ascending
@@ -45,3 +46,7 @@ keepIf false m l = l
 unfoldable pub kept : {M : Type 0} → (M → Bool) → List M → List M
 kept test [] = []
 kept test (m ∷ l) = keepIf (test m) m (kept test l)
+
+-- What is said on going to w from u is about the pair (w,u) and no other; `about a b` tests what is said of (a,b).
+abbrev pub OfItsPair : {M : Type 0} → List ℕ → ℕ → (ℕ → ℕ → M → Bool) → (ℕ → ℕ → List M) → Type 0
+OfItsPair ps n about says = (a b w u : ℕ) → w < n → u < n → adjacent ps u w ≡ true → kept (about a b) (says w u) ≡ when (eqb a w && eqb b u) (says w u)
