@@ -2,7 +2,6 @@
 use mathlib.Core.Path.{_≡_, refl}
 use mathlib.Core.Bool.{Bool, true, false}
 use mathlib.Core.List.{List, [], _∷_}
-use Prim.Native.Nat.{ℕ}
 use Rattle.rule.specs.Pair.{Request, combine, write, belongs, own, next, price, numberAfter, messages}
 
 -- the kinds, and whether the node is on u's side of the pair: for (2,1) and (1,0) the writes at 2 are, the combines at 0 are not

@@ -2,7 +2,7 @@
 use mathlib.Core.Path.{_≡_, refl}
 use mathlib.Core.Bool.{Bool, true, false}
 use mathlib.Core.List.{List, [], _∷_, _++_}
-use Prim.Native.Nat.{ℕ, zero, suc, _+_, _*_, _≤_}
+use Prim.Native.Nat.{ℕ, zero, suc, _+_, _≤_}
 use native.Mathlib.Omega.{arith}
 use Rattle.rule.specs.Pair.{Request, combine, write, belongs, own, next, price, numberAfter, messages}
 use Rattle.rule.specs.Promises.{Own-more, Number-more, Messages-more, Number-most, Messages-most}

@@ -1,6 +1,6 @@
 -- The bound is met exactly: the rounds of combine, write, write, and the schedule that stays off.
-use mathlib.Core.Path.{_≡_, refl}
-use Prim.Native.Nat.{ℕ, zero, suc, _+_, _*_}
+use mathlib.Core.Path.{refl}
+use Prim.Native.Nat.{zero, suc, _+_}
 use native.Mathlib.Omega.{arith}
 use Rattle.rule.specs.Pair.{next, price, messages, rounds}
 use Rattle.rule.specs.Schedules.{combine-off-off, write-off-off, end, staysOff}

@@ -1,6 +1,6 @@
 -- A tree in rule: the test, entry by entry, and the facts it stands for.
 use mathlib.Core.Path.{_≡_, refl, sym, ap, ap₂, _∙_}
-use mathlib.Core.Bool.{Bool, true, false, _&&_, true≢false, false≢true, and-false, and-eq-true-iff}
+use mathlib.Core.Bool.{true, false, _&&_, and-false, and-eq-true-iff}
 use mathlib.Core.Logic.{_⊎_, inl, inr}
 use mathlib.Core.List.{List}
 use Prim.Native.Nat.{ℕ, zero, suc, _+_, _≤_, _<_}
@@ -12,6 +12,16 @@ use borrow.Author.Tests.{lt-ltb, le-ltb, ltb-true, leb-true, le-leb, lt-leb, eqb
 use Rattle.tree.specs.Parents.{parent, InRule, entryInRule, entriesInRule, inRule}
 use Rattle.tree.specs.Promises.{In-rule-exactly}
 use Rattle.tree.proofs.Cases.{order}
+
+-- an entry that is used, and one that is not
+pub entry-used : (n i p : ℕ) → 0 < i → i < n → entryInRule n i p ≡ ltb p i
+unfolding entryInRule
+entry-used n i p z h = rw (lt-ltb 0 i z, lt-ltb i n h)
+
+pub entry-unused : (n i p : ℕ) → (i ≡ 0) ⊎ (n ≤ i) → entryInRule n i p ≡ eqb p 0
+unfolding entryInRule
+entry-unused n i p (inl e) = rw (le-ltb 0 i (omega arith))
+entry-unused n i p (inr h) = rw (le-ltb i n h, and-false (ltb 0 i))
 
 -- the turns of the test over all entries
 module _ (n : ℕ) (ps : List ℕ) where
@@ -39,16 +49,6 @@ module _ (n : ℕ) (ps : List ℕ) where
   entries-of zero f = refl
   entries-of (suc m) f = ap₂ _&&_ (entries-of m (λ i l. f i (omega arith))) (f m (omega arith))
 
-  -- an entry that is used, and one that is not
-  entry-used : (i : ℕ) → 0 < i → i < n → entryInRule n i (parent ps i) ≡ ltb (parent ps i) i
-  unfolding entryInRule
-  entry-used i z h = rw (lt-ltb 0 i z, lt-ltb i n h)
-
-  entry-unused : (i : ℕ) → (i ≡ 0) ⊎ (n ≤ i) → entryInRule n i (parent ps i) ≡ eqb (parent ps i) 0
-  unfolding entryInRule
-  entry-unused i (inl e) = rw (le-ltb 0 i (omega arith))
-  entry-unused i (inr h) = rw (le-ltb i n h, and-false (ltb 0 i))
-
   -- the count out of bounds
   pub none-fails : n < 1 → inRule n ps ≡ false
   unfolding inRule
@@ -74,8 +74,8 @@ in-rule-exactly n ps = (facts, test)
         record {
           some = leb-true 1 n (a .0);
           few = few;
-          grown = λ i z h. ltb-true (parent ps i) i (sym (entry-used n ps i z h) ∙ entries-at n ps 256 i (b .1) (omega arith));
-          unused = λ i h u. eqb-true (parent ps i) 0 (sym (entry-unused n ps i u) ∙ entries-at n ps 256 i (b .1) h);
+          grown = λ i z h. ltb-true (parent ps i) i (sym (entry-used n i (parent ps i) z h) ∙ entries-at n ps 256 i (b .1) (omega arith));
+          unused = λ i h u. eqb-true (parent ps i) 0 (sym (entry-unused n i (parent ps i) u) ∙ entries-at n ps 256 i (b .1) h);
         }
 
     test : InRule n ps → inRule n ps ≡ true
@@ -84,8 +84,8 @@ in-rule-exactly n ps = (facts, test)
         each : (i : ℕ) → i < 256 → entryInRule n i (parent ps i) ≡ true
         each i h = order i 0
             (λ l. absurd (not-suc-le-zero l))
-            (λ e. entry-unused n ps i (inl e) ∙ eq-eqb (parent ps i) 0 (r .unused i h (inl e)))
+            (λ e. entry-unused n i (parent ps i) (inl e) ∙ eq-eqb (parent ps i) 0 (r .unused i h (inl e)))
             (λ z. order i n
-            (λ l. entry-used n ps i z l ∙ lt-ltb (parent ps i) i (r .grown i z l))
-            (λ e. let g : n ≤ i = omega arith in entry-unused n ps i (inr g) ∙ eq-eqb (parent ps i) 0 (r .unused i h (inr g)))
-            (λ l. let g : n ≤ i = omega arith in entry-unused n ps i (inr g) ∙ eq-eqb (parent ps i) 0 (r .unused i h (inr g))))
+            (λ l. entry-used n i (parent ps i) z l ∙ lt-ltb (parent ps i) i (r .grown i z l))
+            (λ e. let g : n ≤ i = omega arith in entry-unused n i (parent ps i) (inr g) ∙ eq-eqb (parent ps i) 0 (r .unused i h (inr g)))
+            (λ l. let g : n ≤ i = omega arith in entry-unused n i (parent ps i) (inr g) ∙ eq-eqb (parent ps i) 0 (r .unused i h (inr g))))

@@ -1,6 +1,6 @@
 -- The range of a sum of k values: it adds, and it fits.
 use mathlib.Core.Path.{_≡_, refl, sym, ap, _∙_}
-use mathlib.Core.Bool.{Bool, true, false, cond, _&&_, and-true}
+use mathlib.Core.Bool.{Bool, true, false, _&&_, and-true}
 use Prim.Native.Nat.{ℕ, zero, suc, _+_, _-_, _*_, _^_, _<_, _≤_}
 use native.Mathlib.Decide.{decLt}
 use native.Mathlib.Omega.{arith}

@@ -1,6 +1,6 @@
 -- Which neighbour leads where: exactly one to each other node.
 use mathlib.Core.Path.{_≡_, refl, sym, ap, ap₂, _∙_}
-use mathlib.Core.Bool.{Bool, true, false, not, _&&_, true≢false, and-true, and-false, Bool·not-not, and-eq-true-iff}
+use mathlib.Core.Bool.{true, false, not, _&&_, true≢false, and-true, and-false, Bool·not-not, and-eq-true-iff}
 use mathlib.Core.Logic.{_≢_}
 use mathlib.Core.List.{List}
 use Prim.Native.Nat.{ℕ, _<_}

@@ -4,9 +4,10 @@ use mathlib.Core.Bool.{Bool}
 use mathlib.Core.Logic.{_≢_}
 use mathlib.Core.List.{List, []}
 use Prim.Native.Nat.{ℕ, _<_}
+use native.Mathlib.Omega.{arith}
 use lib.Dec.{eqb}
 use borrow.Author.Tests.{eq-eqb, ne-eqb}
-use Rattle.tree.specs.Operation.{Op, fold, pick}
+use Rattle.tree.specs.Operation.{fold, pick}
 use Rattle.tree.specs.Tours.{turn, round, kept}
 use Rattle.tree.specs.Promises.{Any-order}
 use Rattle.tree.proofs.Folds.{swap, alike, only}
@@ -15,11 +16,11 @@ use Rattle.tree.proofs.Lists.{joined-same, joined-none, joined-one, kep
 module _ (n u : ℕ) (hu : u < n) where
   pub turn-inside : (k : ℕ) → k < n → turn n u k < n
   unfolding turn
-  turn-inside k h = h
+  turn-inside k h = omega arith
 
   turn-once : (j k : ℕ) → j < n → k < n → turn n u j ≡ turn n u k → j ≡ k
   unfolding turn
-  turn-once j k hj hk e = e
+  turn-once j k hj hk e = omega arith
 
   turn-place : (w : ℕ) → w < n → (k : ℕ) × (k < n) × (turn n u k ≡ w)
   unfolding turn

@@ -1,5 +1,5 @@
 -- Neighbours, and the two sides of the edge between them. ps are the parents, n is the count.
-use mathlib.Core.Bool.{Bool, true, false, not, cond, _&&_, _||_}
+use mathlib.Core.Bool.{Bool, not, cond, _&&_, _||_}
 use mathlib.Core.List.{List}
 use Prim.Native.Nat.{ℕ, zero, suc}
 use lib.Dec.{eqb, ltb}

@@ -39,10 +39,13 @@ pub fn neighbours(count: usize, parents: &[u8; 256], u: usize, w: usize) -> bool
     requires { ⌜ length (now parents) ≡ 256 ⌝ }
     ensures { λ r. ⌜ r ≡ sides.neighbours count (now (parents .entry)) u w ⌝ }
 {
-    if (u < count) & (w < count) {
-        return adjacent(parents, u, w);
+    if count <= u {
+        return false;
     }
-    false
+    if count <= w {
+        return false;
+    }
+    adjacent(parents, u, w)
 }
 
 // Climbs from j until it meets i, the root, or has taken as many steps as j is large.

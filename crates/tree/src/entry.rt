@@ -31,8 +31,11 @@ pub fn entries_in_rule(count: usize, parents: &[u8; 256]) -> bool
 pub fn entry_in_rule(count: usize, i: usize, parent: u8) -> bool
     ensures { λ r. ⌜ r ≡ entryInRule count i parent ⌝ }
 {
-    if (0 < i) & (i < count) {
-        return (parent as usize) < i;
+    if i < 1 {
+        return parent == 0;
     }
-    parent == 0
+    if count <= i {
+        return parent == 0;
+    }
+    (parent as usize) < i
 }

@@ -1,5 +1,4 @@
 -- `Rule::after_writes` meets its contract: each write lowers the number by one, down to 0.
-use mathlib.Core.Path.{sym, _∙_}
 use native.Mathlib.Omega.{arith}
 use borrow.Author.Needs.{needs}
 use Rattle.rule.proofs.Runs.{number-writes}
