@@ -3,7 +3,8 @@ use mathlib.Core.List.{List}
 use Prim.Native.Nat.{ℕ, zero, suc, _+_, _*_, _≤_}
 use native.Mathlib.Omega.{arith}
 use Rattle.rule.specs.Pair.{Request, combine, write, next, price, messages}
-use Rattle.rule.specs.Schedules.{Mode, off, on, Schedule, combine-off-off, combine-off-on, combine-on-on, write-off-off, write-on-on, write-on-off, end, potential}
+use Rattle.rule.specs.Schedules.{Mode, off, on, Schedule, combine-off-off, combine-off-on, combine-on-on, write-off-off, write-on-on, write-on-off, end}
+use Rattle.rule.specs.Configurations.{potential}
 use Rattle.rule.specs.Promises.{Bound, Five-halves}
 
 -- at the number k, for each entry of the table

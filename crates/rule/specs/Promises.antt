@@ -6,8 +6,8 @@ use mathlib.Core.List.{List, [], _∷_, _++_}
 use Prim.Native.Nat.{ℕ, _+_, _*_, _≤_}
 use lib.ListN.{length, replicate}
 use Rattle.rule.specs.Pair.{Request, combine, write, belongs, own, next, price, numberAfter, messages, rounds}
-use Rattle.rule.specs.Schedules.{Mode, off, Schedule, staysOff, potential}
-use Rattle.rule.specs.Configurations.{Configuration}
+use Rattle.rule.specs.Schedules.{Mode, off, Schedule, staysOff}
+use Rattle.rule.specs.Configurations.{Configuration, potential}
 
 -- Twice the messages is at most five times the cost of any schedule of the same list, and the potential of the start.
 abbrev pub Bound : Type 0

@@ -1,5 +1,5 @@
 -- Schedules and their cost: document 01's table.
-use Prim.Native.Nat.{ℕ, zero, suc, _+_, _*_}
+use Prim.Native.Nat.{ℕ, _+_}
 use mathlib.Core.Bool.{Bool, true, false}
 use mathlib.Core.List.{List, [], _∷_}
 use Rattle.rule.specs.Pair.{Request, combine, write}
@@ -31,11 +31,3 @@ staysOff (write-on-on s) = false
 staysOff (write-on-off s) = false
 staysOff (end {m = off}) = true
 staysOff (end {m = on}) = false
-
--- the paper's potential, doubled, of a schedule's mode and a lease number: 0, 4, 6 and 5, 4, 1 at 0, 1, 2
-unfoldable pub potential : Mode → ℕ → ℕ
-potential off zero = 0
-potential off (suc k) = 4 + 2 * k
-potential on zero = 5
-potential on (suc zero) = 4
-potential on (suc (suc k)) = 1 + 2 * k

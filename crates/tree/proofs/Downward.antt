@@ -12,8 +12,8 @@ use lib.ListN.{getD, set}
 use borrow.Author.Tests.{eqb-true, lt-ltb, le-ltb, le-leb, lt-leb, eq-eqb, ne-eqb, not-true}
 use Rattle.tree.specs.Parents.{parent, Grown}
 use Rattle.tree.specs.Sides.{below, adjacent, side}
-use Rattle.tree.specs.Operation.{pick, aggregate}
-use Rattle.tree.specs.Sums.{plus, sizeBelow, ones, listed}
+use Rattle.tree.specs.Operation.{pick, aggregate, plus}
+use Rattle.tree.specs.Sizes.{sizeBelow, ones, listed}
 use Rattle.tree.proofs.Cases.{either, order}
 use Rattle.tree.proofs.Folds.{related, same-nodes, same-where, zeros, pull}
 use Rattle.tree.proofs.Below.{below-self, below-root, below-step, below-lt, inherited}

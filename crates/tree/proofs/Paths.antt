@@ -10,7 +10,7 @@ use native.Mathlib.Omega.{arith}
 use borrow.Author.Tests.{eqb-true, lt-ltb, le-ltb, ne-eqb}
 use Rattle.tree.specs.Parents.{parent, Grown}
 use Rattle.tree.specs.Sides.{below, adjacent, side}
-use Rattle.tree.specs.Sums.{size}
+use Rattle.tree.specs.Sizes.{size}
 use Rattle.tree.specs.Tours.{Closed}
 use Rattle.tree.proofs.Cases.{either, order}
 use Rattle.tree.proofs.Below.{below-step}

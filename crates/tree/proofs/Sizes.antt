@@ -9,8 +9,8 @@ use native.Mathlib.Omega.{arith}
 use borrow.Author.Tests.{lt-ltb, ne-eqb}
 use Rattle.tree.specs.Parents.{parent, Grown}
 use Rattle.tree.specs.Sides.{adjacent, side, other}
-use Rattle.tree.specs.Operation.{fold, pick}
-use Rattle.tree.specs.Sums.{plus, size}
+use Rattle.tree.specs.Operation.{fold, pick, plus}
+use Rattle.tree.specs.Sizes.{size}
 use Rattle.tree.specs.Promises.{Sizes-add, Size-below}
 use Rattle.tree.proofs.Cases.{order}
 use Rattle.tree.proofs.Folds.{pull}

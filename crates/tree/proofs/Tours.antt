@@ -10,8 +10,9 @@ use lib.Dec.{eqb}
 use borrow.Author.Tests.{eqb-false, eq-eqb, ne-eqb, not-true}
 use Rattle.tree.specs.Parents.{Grown}
 use Rattle.tree.specs.Sides.{adjacent, side, other}
-use Rattle.tree.specs.Sums.{size}
-use Rattle.tree.specs.Tours.{round, when, visit, tour, Closed, kept, OfItsPair}
+use Rattle.tree.specs.Sizes.{size}
+use Rattle.tree.specs.Turns.{round}
+use Rattle.tree.specs.Tours.{when, visit, tour, Closed, kept, OfItsPair}
 use Rattle.tree.specs.Promises.{Visited-once, Count-is-enough}
 use Rattle.tree.proofs.Cases.{either, never}
 use Rattle.tree.proofs.Toward.{adjacent-ne, adjacent-sym, complementary, next, unique, self, not-own, own, nested}

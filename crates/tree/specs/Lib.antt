@@ -2,7 +2,9 @@
 pub mod Parents
 pub mod Sides
 pub mod Operation
-pub mod Sums
+pub mod Sizes
+pub mod Ranges
+pub mod Turns
 pub mod Tours
 pub mod Leaves
 pub mod Promises

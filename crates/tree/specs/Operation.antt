@@ -1,7 +1,9 @@
--- An operation that joins values, and what it makes of many.
-use mathlib.Core.Path.{_≡_}
+-- An operation that joins values, what it makes of many, and the two that are used: + on ℕ, for sizes, and + on ℤ, for values.
+use mathlib.Core.Path.{_≡_, refl}
 use mathlib.Core.Bool.{Bool, cond}
-use Prim.Native.Nat.{ℕ, zero, suc}
+use Prim.Native.Nat.{ℕ, zero, suc, _+_}
+use native.Mathlib.Nat.{add-assoc, add-comm}
+use lib.IntN.{ℤ, pos, _+ℤ_, +ℤ-assoc, +ℤ-comm}
 
 -- ε need be a unit for itself alone: smallest on all of ℤ has no unit, and is an operation too.
 pub record Op (A : Type 0) : Type 0 where
@@ -25,3 +27,9 @@ module _ {A : Type 0} (op : Op A) where
   -- the aggregate of f over the nodes below n that pass the test
   abbrev pub aggregate : (ℕ → A) → (ℕ → Bool) → ℕ → A
   aggregate f test n = fold (λ j. pick (test j) (f j)) n
+
+abbrev pub plus : Op ℕ
+plus = record { _⊕_ = _+_; ε = 0; assoc = add-assoc; comm = add-comm; idem = refl }
+
+abbrev pub sum : Op ℤ
+sum = record { _⊕_ = _+ℤ_; ε = pos 0; assoc = +ℤ-assoc; comm = +ℤ-comm; idem = refl }

@@ -9,9 +9,11 @@ use lib.IntN.{ℤ, _+ℤ_}
 use Rattle.fields.specs.Twos.{within}
 use Rattle.tree.specs.Parents.{parent, Grown, InRule, inRule}
 use Rattle.tree.specs.Sides.{adjacent, side, pointsTo, other}
-use Rattle.tree.specs.Operation.{Op, fold, aggregate}
-use Rattle.tree.specs.Sums.{plus, sum, size, sizeBelow, Range}
-use Rattle.tree.specs.Tours.{turn, when, tour, Closed, kept, OfItsPair}
+use Rattle.tree.specs.Operation.{Op, fold, aggregate, plus, sum}
+use Rattle.tree.specs.Sizes.{size, sizeBelow}
+use Rattle.tree.specs.Ranges.{Range}
+use Rattle.tree.specs.Turns.{turn}
+use Rattle.tree.specs.Tours.{when, tour, Closed, kept, OfItsPair}
 use Rattle.tree.specs.Leaves.{Joins, Goes, raised}
 
 -- The test of a tree says what it should.

@@ -6,18 +6,7 @@ use mathlib.Core.List.{List, [], _∷_, _++_}
 use Prim.Native.Nat.{ℕ, zero, suc, _<_}
 use lib.Dec.{eqb}
 use Rattle.tree.specs.Sides.{adjacent, other}
-
--- the k-th candidate of node u in a tree of n nodes, k from 0 to n - 1: ascending
-unfoldable pub turn : ℕ → ℕ → ℕ → ℕ
-turn n u k = k
-
--- what is said of all candidates of u, in turn
-unfoldable pub joined : {M : Type 0} → (ℕ → List M) → ℕ → List M
-joined says zero = []
-joined says (suc k) = joined says k ++ says k
-
-abbrev pub round : {M : Type 0} → ℕ → ℕ → (ℕ → List M) → List M
-round n u says = joined (λ k. says (turn n u k)) n
+use Rattle.tree.specs.Turns.{round}
 
 -- l where the test holds
 abbrev pub when : {M : Type 0} → Bool → List M → List M

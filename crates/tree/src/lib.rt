@@ -10,7 +10,7 @@ mod pass; // the sizes of all sides, in one pass
 ghost use mathlib.Core.Path.{_≡_};
 ghost use Rattle.tree.specs.Parents.{inRule};
 ghost use Rattle.tree.specs.Sides.{below, neighbours};
-ghost use Rattle.tree.specs.Sums.{sizes};
+ghost use Rattle.tree.specs.Sizes.{sizes};
 
 // The nodes are 0 to count - 1. Entry 0 of parents, and those from count on, are not used and zero.
 #[repr(C)]

@@ -4,8 +4,8 @@ use crate::entry;
 ghost use mathlib.Core.Path.{_≡_};
 ghost use Prim.Native.Nat.{_≤_, _<_};
 ghost use Rattle.tree.specs.Parents.{Grown};
-ghost use Rattle.tree.specs.Sums as spec;
-ghost use Rattle.tree.specs.Sums.{sizeBelow, listed, ones};
+ghost use Rattle.tree.specs.Sizes as spec;
+ghost use Rattle.tree.specs.Sizes.{sizeBelow, listed, ones};
 
 pub fn sizes(count: usize, parents: &[u8; 256]) -> [u16; 256]
     ensures { λ r. ⌜ r ≡ spec.sizes count (now (parents .entry)) ⌝ }

@@ -3,7 +3,7 @@ use mathlib.Core.Path.{_≡_}
 use Prim.Native.Nat.{_-_, _≤_}
 use native.Mathlib.Omega.{arith}
 use borrow.Author.Needs.{needs}
-use Rattle.tree.specs.Sums.{listed, ones}
+use Rattle.tree.specs.Sizes.{listed, ones}
 use borrow.Author.Tests.{le-ltb}
 use Rattle.tree.proofs.Listed.{listed-zero, ones-more}
 use Rattle.tree.proofs.pass.alone.Statement.{statement}

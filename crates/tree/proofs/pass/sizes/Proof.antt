@@ -1,7 +1,7 @@
 -- `pass::sizes` meets its contract: in rule the pass, else none.
 use mathlib.Core.Path.{sym, _∙_}
 use borrow.Author.Needs.{needs}
-use Rattle.tree.specs.Sums.{sizes}
+use Rattle.tree.specs.Sizes.{sizes}
 use Rattle.tree.proofs.InRule.{in-rule-exactly}
 use Rattle.tree.proofs.pass.sizes.Statement.{statement}
 use Rattle.tree.proofs.pass.sizes.Tie as tie

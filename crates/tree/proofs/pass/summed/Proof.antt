@@ -5,7 +5,7 @@ use Prim.Native.Nat.{ℕ, _+_, _-_, _<_, _≤_}
 use lib.ListN.{getD, set}
 use native.Mathlib.Omega.{arith}
 use borrow.Author.Needs.{needs}
-use Rattle.tree.specs.Sums.{listed}
+use Rattle.tree.specs.Sizes.{listed}
 use Rattle.tree.proofs.Listed.{listed-same}
 use Rattle.tree.proofs.Downward.{held, held-first, held-last, parent-inside, sum-most, pass-turn}
 use Rattle.tree.proofs.pass.summed.Statement.{statement}
