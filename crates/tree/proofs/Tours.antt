@@ -11,8 +11,7 @@ use borrow.Author.Tests.{eqb-false, eq-eqb, ne-eqb, not-true}
 use Rattle.tree.specs.Parents.{Grown}
 use Rattle.tree.specs.Sides.{adjacent, side, other}
 use Rattle.tree.specs.Sizes.{size}
-use Rattle.tree.specs.Turns.{round}
-use Rattle.tree.specs.Tours.{when, visit, tour, Closed, kept, OfItsPair}
+use Rattle.tree.specs.Tours.{when, onward, visit, tour, Closed, kept, OfItsPair}
 use Rattle.tree.specs.Promises.{Visited-once, Count-is-enough}
 use Rattle.tree.proofs.Cases.{either, never}
 use Rattle.tree.proofs.Toward.{adjacent-ne, adjacent-sym, complementary, next, unique, self, not-own, own, nested}
@@ -28,6 +27,22 @@ goes ps go u v w t =
     let o = and-eq-true-iff (adjacent ps w u) (not (eqb v w)) .0 (e .0) in
     (o .0, eqb-false v w (not-true (eqb v w) (o .1)), e .1)
 
+-- a round of the neighbours gone to depends on what is said of those alone, and what is kept of it is the round of what is kept
+module _ (ps : List ℕ) (n : ℕ) (go : ℕ → ℕ → Bool) (u v : ℕ) (hu : u < n) {M : Type 0} where
+  pub onward-same : (F G : ℕ → List M) → ((w : ℕ) → w < n → (other ps u v w && go w u) ≡ true → F w ≡ G w) → onward ps n go u v F ≡ onward ps n go u v G
+  onward-same F G h =
+      round-same n u hu (λ w. when (other ps u v w && go w u) (F w)) (λ w. when (other ps u v w && go w u) (G w)) (λ w l. one (other ps u v w && go w u) (h w l))
+    where
+      one : (t : Bool) {s r : List M} → (t ≡ true → s ≡ r) → when t s ≡ when t r
+      one true e = e refl
+      one false e = refl
+
+  pub onward-kept : (test : M → Bool) (F : ℕ → List M) → kept test (onward ps n go u v F) ≡ onward ps n go u v (λ w. kept test (F w))
+  onward-kept test F =
+      kept-round n u hu test (λ w. when (other ps u v w && go w u) (F w))
+      ∙ round-same n u hu (λ w. kept test (when (other ps u v w && go w u) (F w))) (λ w. when (other ps u v w && go w u) (kept test (F w)))
+      (λ w l. kept-when test (other ps u v w && go w u) (F w))
+
 -- the pairs (a,b) that a walk goes to from the step to u from v on: a is on u's side, b is its neighbour towards v, and the test lets it
 abbrev region : List ℕ → (ℕ → ℕ → Bool) → ℕ → ℕ → ℕ → ℕ → Bool
 region ps go u v a b = side ps u v a && ((side ps b a v && adjacent ps b a) && go a b)
@@ -37,9 +52,6 @@ module _ (ps : List ℕ) (n : ℕ) (grown : Grown ps n) (go : ℕ → ℕ → Bo
   -- one node u of the walk, come from v: the neighbours w gone to, F w what is said of (a,b) there, Z all that there is to say
   module _ (Z : List M) (u v : ℕ) (hu : u < n) (F : ℕ → List M)
       (h : (w : ℕ) → w < n → (other ps u v w && go w u) ≡ true → F w ≡ when (region ps go w u a b) Z) where
-    abbrev said : List M
-    said = round n u (λ w. when (other ps u v w && go w u) (F w))
-
     -- a neighbour that does not have a on its side, if gone to, says nothing
     quiet : (w : ℕ) → w < n → ((other ps u v w && go w u) ≡ true → side ps w u a ≡ false) → when (other ps u v w && go w u) (F w) ≡ []
     quiet w l k = by (other ps u v w && go w u) refl
@@ -48,12 +60,12 @@ module _ (ps : List ℕ) (n : ℕ) (grown : Grown ps n) (go : ℕ → ℕ → Bo
         by true e = h w l e ∙ rw (k e)
         by false e = refl
 
-    none-gone : ((w : ℕ) → (other ps u v w && go w u) ≡ true → side ps w u a ≡ false) → said ≡ []
+    none-gone : ((w : ℕ) → (other ps u v w && go w u) ≡ true → side ps w u a ≡ false) → onward ps n go u v F ≡ []
     none-gone k = round-none n u hu (λ w. when (other ps u v w && go w u) (F w)) (λ w l. quiet w l (k w))
 
     -- the one that has it
     gone : (k : ℕ) → k < n → adjacent ps k u ≡ true → side ps k u a ≡ true
-        → said ≡ when (not (eqb v k) && ((side ps b a u && adjacent ps b a) && go a b)) Z
+        → onward ps n go u v F ≡ when (not (eqb v k) && ((side ps b a u && adjacent ps b a) && go a b)) Z
     gone k hk ak sk =
         round-one n u hu (λ w. when (other ps u v w && go w u) (F w)) k hk (λ w l o. quiet w l (λ t. away w (goes ps go u v w t .0) o))
         ∙ last (not (eqb v k)) refl (go k u) refl
@@ -78,7 +90,7 @@ module _ (ps : List ℕ) (n : ℕ) (grown : Grown ps n) (go : ℕ → ℕ → Bo
   -- the region of (u,v) is that pair and the regions of the pairs gone to from u
   gather : (X Y : List M) (u v : ℕ) → u < n → v < n → adjacent ps v u ≡ true → go u v ≡ true → (F : ℕ → List M)
       → ((w : ℕ) → w < n → (other ps u v w && go w u) ≡ true → F w ≡ when (region ps go w u a b) (X ++ Y))
-      → when (eqb a u && eqb b v) X ++ (round n u (λ w. when (other ps u v w && go w u) (F w)) ++ when (eqb a u && eqb b v) Y) ≡ when (region ps go u v a b) (X ++ Y)
+      → when (eqb a u && eqb b v) X ++ (onward ps n go u v F ++ when (eqb a u && eqb b v) Y) ≡ when (region ps go u v a b) (X ++ Y)
   gather X Y u v hu hv c g F h = either (ℕ-discrete a u)
       (λ e. either (ℕ-discrete b v)
       (λ p. rw (zero-at e, eq-eqb a u e, eq-eqb b v p, e, p, own ps n grown u v hu c, vv, c, g))
@@ -104,7 +116,7 @@ module _ (ps : List ℕ) (n : ℕ) (grown : Grown ps n) (go : ℕ → ℕ → Bo
       vv : side ps v u v ≡ true
       vv = own ps n grown v u hv c′
 
-      zero-at : a ≡ u → round n u (λ w. when (other ps u v w && go w u) (F w)) ≡ []
+      zero-at : a ≡ u → onward ps n go u v F ≡ []
       zero-at e = none-gone (X ++ Y) u v hu F h (λ w t. rw e (not-own ps n grown u w hu (goes ps go u v w t .0)))
 
       across : a ≢ u → a ≢ v → (z : Bool) → adjacent ps b a ≡ z → (side ps b a v && z) ≡ (side ps b a u && z)
@@ -121,30 +133,22 @@ module _ (ps : List ℕ) (n : ℕ) (grown : Grown ps n) (go : ℕ → ℕ → Bo
         (λ e. either (ℕ-discrete b u) (λ p. rw (eq-eqb a w e, eq-eqb b u p, e, p)) (λ p. rw (ne-eqb b u p, and-false)))
         (λ e. rw (ne-eqb a w e))
 
-    -- what is kept of a round is the round of what is kept
-    inside : (k u v : ℕ) → u < n → told (round n u (λ w. when (other ps u v w && go w u) (visit ps n go before after k w u)))
-        ≡ round n u (λ w. when (other ps u v w && go w u) (told (visit ps n go before after k w u)))
-    inside k u v hu =
-        kept-round n u hu (about a b) (λ w. when (other ps u v w && go w u) (visit ps n go before after k w u))
-        ∙ round-same n u hu (λ w. told (when (other ps u v w && go w u) (visit ps n go before after k w u))) (λ w. when (other ps u v w && go w u) (told (visit ps n go before after k w u)))
-        (λ w i. kept-when (about a b) (other ps u v w && go w u) (visit ps n go before after k w u))
-
     once : (k u v : ℕ) → size ps n u v ≤ k → u < n → v < n → adjacent ps v u ≡ true → go u v ≡ true
         → told (visit ps n go before after k u v) ≡ when (region ps go u v a b) (before a b ++ after a b)
     unfolding visit
     once zero u v l hu hv c g = absurd (omega (arith, size-least ps n grown u v hu c))
     once (suc k) u v l hu hv c g =
         kept-append (about a b) (before u v) (gap ++ after u v)
-        ∙ ap₂ _++_ (of-pair before of-before u v hu hv c) (kept-append (about a b) gap (after u v) ∙ ap₂ _++_ (inside k u v hu) (of-pair after of-after u v hu hv c))
+        ∙ ap₂ _++_ (of-pair before of-before u v hu hv c) (kept-append (about a b) gap (after u v) ∙ ap₂ _++_ (onward-kept ps n go u v hu (about a b) (λ w. visit ps n go before after k w u)) (of-pair after of-after u v hu hv c))
         ∙ gather (before a b) (after a b) u v hu hv c g (λ w. told (visit ps n go before after k w u)) (λ w hw t.
         let e = goes ps go u v w t in
         once k w u (omega (arith, size-less ps n grown u v hu c w hw (e .0) (e .1))) hw hu (adjacent-sym ps u w ∙ e .0) (e .2))
       where
         gap : List M
-        gap = round n u (λ w. when (other ps u v w && go w u) (visit ps n go before after k w u))
+        gap = onward ps n go u v (λ w. visit ps n go before after k w u)
 
     from-start : (k x : ℕ) → n ≤ k → x < n → told (tour ps n go before after k x) ≡ when ((side ps b a x && adjacent ps b a) && go a b) (before a b ++ after a b)
-    from-start k x enough hx = inside k x x hx ∙ either (ℕ-discrete a x)
+    from-start k x enough hx = onward-kept ps n go x x hx (about a b) (λ w. visit ps n go before after k w x) ∙ either (ℕ-discrete a x)
         (λ e. none-gone (before a b ++ after a b) x x hx F at (λ w t. rw e (not-own ps n grown x w hx (goes ps go x x w t .0))) ∙ rw (e, self ps n grown x b hx))
         (λ d. let q = next ps n grown x a hx ha d in
         gone (before a b ++ after a b) x x hx F at (q .0) (q .1) (q .2) (q .3) ∙ rw (ne-eqb x (q .0) (λ o. adjacent-ne ps (q .0) x (q .2) (sym o))))
@@ -162,29 +166,18 @@ pub visited-once : Visited-once
 visited-once ps n grown go closed M about before after of-before of-after a b ha hb = from-start ps n grown go closed a b ha hb about before after of-before of-after
 
 module _ (ps : List ℕ) (n : ℕ) (grown : Grown ps n) {M : Type 0} (go : ℕ → ℕ → Bool) (before after : ℕ → ℕ → List M) where
-  -- two falling numbers that are both enough for all neighbours gone to
-  same-round : (k m u v : ℕ) → u < n
-      → ((w : ℕ) → w < n → (other ps u v w && go w u) ≡ true → visit ps n go before after k w u ≡ visit ps n go before after m w u)
-      → round n u (λ w. when (other ps u v w && go w u) (visit ps n go before after k w u)) ≡ round n u (λ w. when (other ps u v w && go w u) (visit ps n go before after m w u))
-  same-round k m u v hu h =
-      round-same n u hu (λ w. when (other ps u v w && go w u) (visit ps n go before after k w u)) (λ w. when (other ps u v w && go w u) (visit ps n go before after m w u))
-      (λ w l. one (other ps u v w && go w u) (h w l))
-    where
-      one : (t : Bool) {s r : List M} → (t ≡ true → s ≡ r) → when t s ≡ when t r
-      one true e = e refl
-      one false e = refl
-
+  -- two falling numbers that are both enough
   same-visit : (k m u v : ℕ) → size ps n u v ≤ k → size ps n u v ≤ m → u < n → adjacent ps v u ≡ true → visit ps n go before after k u v ≡ visit ps n go before after m u v
   unfolding visit
   same-visit zero m u v l i hu c = absurd (omega (arith, size-least ps n grown u v hu c))
   same-visit (suc k) zero u v l i hu c = absurd (omega (arith, size-least ps n grown u v hu c))
-  same-visit (suc k) (suc m) u v l i hu c = ap (λ s. before u v ++ (s ++ after u v)) (same-round k m u v hu (λ w hw t.
+  same-visit (suc k) (suc m) u v l i hu c = ap (λ s. before u v ++ (s ++ after u v)) (onward-same ps n go u v hu (λ w. visit ps n go before after k w u) (λ w. visit ps n go before after m w u) (λ w hw t.
       let e = goes ps go u v w t in
       let s = size-less ps n grown u v hu c w hw (e .0) (e .1) in
       same-visit k m w u (omega arith) (omega arith) hw (adjacent-sym ps u w ∙ e .0)))
 
 pub count-is-enough : Count-is-enough
-count-is-enough ps n grown M go before after k x l hx = same-round ps n grown go before after k n x x hx (λ w hw t.
+count-is-enough ps n grown M go before after k x l hx = onward-same ps n go x x hx (λ w. visit ps n go before after k w x) (λ w. visit ps n go before after n w x) (λ w hw t.
     let c = adjacent-sym ps x w ∙ goes ps go x x w t .0 in
     let s = sizes-add ps n grown w x hw hx c in
     same-visit ps n grown go before after k n w x (omega arith) (omega arith) hw c)

@@ -12,16 +12,18 @@ use Rattle.tree.specs.Turns.{round}
 abbrev pub when : {M : Type 0} → Bool → List M → List M
 when b l = cond b l []
 
--- A walk that is at v and goes to its neighbour u says `before u v`, goes on from u to the neighbours w other than v where `go w u`, and says `after u v`.
--- It counts down a falling number, and stops at 0.
+-- at u, come from v, the walk goes on to the other neighbours w where `go w u`: what it says of each of them, in turn
+abbrev pub onward : {M : Type 0} → List ℕ → ℕ → (ℕ → ℕ → Bool) → ℕ → ℕ → (ℕ → List M) → List M
+onward ps n go u v says = round n u (λ w. when (other ps u v w && go w u) (says w))
+
+-- on going to u from v it says `before u v`, goes on from u, and says `after u v`; it counts down a falling number, and stops at 0
 unfoldable pub visit : {M : Type 0} → List ℕ → ℕ → (ℕ → ℕ → Bool) → (ℕ → ℕ → List M) → (ℕ → ℕ → List M) → ℕ → ℕ → ℕ → List M
 visit ps n go before after zero u v = []
-visit ps n go before after (suc k) u v =
-    before u v ++ (round n u (λ w. when (other ps u v w && go w u) (visit ps n go before after k w u)) ++ after u v)
+visit ps n go before after (suc k) u v = before u v ++ (onward ps n go u v (λ w. visit ps n go before after k w u) ++ after u v)
 
--- the walk from x
+-- the walk from x, which comes from nowhere
 abbrev pub tour : {M : Type 0} → List ℕ → ℕ → (ℕ → ℕ → Bool) → (ℕ → ℕ → List M) → (ℕ → ℕ → List M) → ℕ → ℕ → List M
-tour ps n go before after k x = round n x (λ w. when (other ps x x w && go w x) (visit ps n go before after k w x))
+tour ps n go before after k x = onward ps n go x x (λ w. visit ps n go before after k w x)
 
 -- The test of a walk is closed outward: where it lets the walk go to r from u, it lets it go to u from any other neighbour v.
 abbrev pub Closed : List ℕ → ℕ → (ℕ → ℕ → Bool) → Type 0
