@@ -22,6 +22,16 @@ pub fn node(x: u8) -> usize
     x as usize
 }
 
+// Both are nodes.
+pub fn nodes(count: usize, u: usize, w: usize) -> bool
+    ensures { λ r. ⌜ r ≡ sides.nodes count u w ⌝ }
+{
+    if u < count {
+        return w < count;
+    }
+    false
+}
+
 pub fn adjacent(parents: &[u8; 256], u: usize, w: usize) -> bool
     requires { ⌜ length (now parents) ≡ 256 ⌝ }
     ensures { λ r. ⌜ r ≡ sides.adjacent (now (parents .entry)) u w ⌝ }
@@ -39,17 +49,24 @@ pub fn neighbours(count: usize, parents: &[u8; 256], u: usize, w: usize) -> bool
     requires { ⌜ length (now parents) ≡ 256 ⌝ }
     ensures { λ r. ⌜ r ≡ sides.neighbours count (now (parents .entry)) u w ⌝ }
 {
-    if count <= u {
-        return false;
+    if nodes(count, u, w) {
+        return adjacent(parents, u, w);
     }
-    if count <= w {
-        return false;
+    false
+}
+
+pub fn is_below(count: usize, parents: &[u8; 256], i: usize, j: usize) -> bool
+    requires { ⌜ length (now parents) ≡ 256 ⌝ }
+    ensures { λ r. ⌜ r ≡ sides.isBelow count (now (parents .entry)) i j ⌝ }
+{
+    if nodes(count, i, j) {
+        return climbs(parents, i, j);
     }
-    adjacent(parents, u, w)
+    false
 }
 
 // Climbs from j until it meets i, the root, or has taken as many steps as j is large.
-pub fn is_below(parents: &[u8; 256], i: usize, j: usize) -> bool
+pub fn climbs(parents: &[u8; 256], i: usize, j: usize) -> bool
     requires { ⌜ length (now parents) ≡ 256 ⌝ }
     ensures { λ r. ⌜ r ≡ sides.below (now (parents .entry)) i j ⌝ }
 {

@@ -9,7 +9,7 @@ mod pass; // the sizes of all sides, in one pass
 
 ghost use mathlib.Core.Path.{_≡_};
 ghost use Rattle.tree.specs.Parents.{inRule};
-ghost use Rattle.tree.specs.Sides.{below, neighbours};
+ghost use Rattle.tree.specs.Sides.{isBelow, neighbours};
 ghost use Rattle.tree.specs.Sizes.{sizes};
 
 // The nodes are 0 to count - 1. Entry 0 of parents, and those from count on, are not used and zero.
@@ -37,9 +37,9 @@ impl Tree {
 
     // Whether node j is node i or below it.
     pub fn is_below(self, i: usize, j: usize) -> bool
-        ensures { λ r. ⌜ r ≡ below (self .parents) i j ⌝ }
+        ensures { λ r. ⌜ r ≡ isBelow (self .count) (self .parents) i j ⌝ }
     {
-        edge::is_below(&self.parents, i, j)
+        edge::is_below(self.count as usize, &self.parents, i, j)
     }
 
     // How many nodes are at or below each node: the size of its side of the edge to its parent. The
