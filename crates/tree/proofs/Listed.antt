@@ -8,8 +8,10 @@ use native.Mathlib.Omega.{arith}
 use lib.ListN.{length, getD, set, replicate, length-set, length-replicate, getD-replicate}
 use lib.Seq.{ext-getD, getD-set-same, getD-set-other}
 use borrow.Author.Tests.{lt-ltb, le-ltb}
-use Rattle.tree.specs.Sizes.{listed, ones}
+use Rattle.tree.specs.Sizes.{sizeBelow, ones, listed, sizes}
+use Rattle.tree.specs.Promises.{Sizes-read}
 use Rattle.tree.proofs.Cases.{either, order}
+use Rattle.tree.proofs.InRule.{in-rule-exactly}
 
 length-end : (l : List ℕ) (a : ℕ) → length (l ++ (a ∷ [])) ≡ suc (length l)
 length-end [] a = refl
@@ -59,3 +61,7 @@ ones-more k h = listed-set (ones k) (ones (k + 1)) 256 k 1 h (rw (lt-ltb k (k + 
     (λ m. rw (lt-ltb i k m, lt-ltb i (k + 1) (omega arith)))
     (λ e. absurd (d e))
     (λ m. rw (le-ltb i k (omega arith), le-ltb i (k + 1) (omega arith))))
+
+pub sizes-read : Sizes-read
+unfolding sizes
+sizes-read n ps r i h = rw (in-rule-exactly n ps .1 r) (listed-read (sizeBelow ps n) 256 i h)

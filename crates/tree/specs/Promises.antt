@@ -6,11 +6,12 @@ use mathlib.Core.List.{List, _++_}
 use Prim.Native.Nat.{ℕ, suc, _+_, _<_, _≤_}
 use lib.Dec.{eqb}
 use lib.IntN.{ℤ, _+ℤ_}
+use lib.ListN.{getD}
 use Rattle.fields.specs.Twos.{within}
 use Rattle.tree.specs.Parents.{parent, Grown, InRule, inRule}
 use Rattle.tree.specs.Sides.{adjacent, side, pointsTo, other}
 use Rattle.tree.specs.Operation.{Op, fold, aggregate, plus, sum}
-use Rattle.tree.specs.Sizes.{size, sizeBelow}
+use Rattle.tree.specs.Sizes.{size, sizeBelow, sizes}
 use Rattle.tree.specs.Ranges.{Range}
 use Rattle.tree.specs.Turns.{turn}
 use Rattle.tree.specs.Tours.{when, tour, Closed, kept, OfItsPair}
@@ -91,7 +92,10 @@ Go-adjacent = (ps : List ℕ) (m x : ℕ) (qs : List ℕ) → Grown ps (suc m) �
 abbrev pub Go-side : Type 0
 Go-side = (ps : List ℕ) (m x : ℕ) (qs : List ℕ) → Grown ps (suc m) → Goes ps m x qs → (u v j : ℕ) → j < m → side qs u v j ≡ side ps (raised x u) (raised x v) (raised x j)
 
--- The size below a node is the size of its side of the edge to its parent.
+-- A tree in rule has at each place of its sizes how many nodes are below that node, which is the size of its side of the edge to its parent.
+abbrev pub Sizes-read : Type 0
+Sizes-read = (n : ℕ) (ps : List ℕ) → InRule n ps → (i : ℕ) → i < 256 → getD (sizes n ps) i 0 ≡ sizeBelow ps n i
+
 abbrev pub Size-below : Type 0
 Size-below = (ps : List ℕ) (n : ℕ) → Grown ps n → (i : ℕ) → 0 < i → i < n → sizeBelow ps n i ≡ size ps n i (parent ps i)
 

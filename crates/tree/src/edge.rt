@@ -1,28 +1,32 @@
-// A node's parent, its neighbours, and the way to the root.
+// Neighbours, and the way to the root.
 ghost use mathlib.Core.Path.{_≡_};
 ghost use lib.ListN.{length};
 ghost use Rattle.tree.specs.Parents as specs;
 ghost use Rattle.tree.specs.Sides as sides;
 
-// The parent of node i, 0 where there is no entry.
-pub fn parent(parents: &[u8; 256], i: usize) -> usize
+// Whether u and w are nodes with an edge between them.
+pub fn neighbours(count: usize, parents: &[u8; 256], u: usize, w: usize) -> bool
     requires { ⌜ length (now parents) ≡ 256 ⌝ }
-    ensures { λ r. ⌜ r ≡ specs.parent (now (parents .entry)) i ⌝ }
+    ensures { λ r. ⌜ r ≡ sides.neighbours count (now (parents .entry)) u w ⌝ }
 {
-    if i < 256 {
-        return node(parents[i]);
+    if nodes(count, u, w) {
+        return adjacent(parents, u, w);
     }
-    0
+    false
 }
 
-// A node's number as an index.
-pub fn node(x: u8) -> usize
-    ensures { λ r. ⌜ r ≡ x ⌝ }
+// Whether i and j are nodes, and j is i or below it.
+pub fn is_below(count: usize, parents: &[u8; 256], i: usize, j: usize) -> bool
+    requires { ⌜ length (now parents) ≡ 256 ⌝ }
+    ensures { λ r. ⌜ r ≡ sides.isBelow count (now (parents .entry)) i j ⌝ }
 {
-    x as usize
+    if nodes(count, i, j) {
+        return climbs(parents, i, j);
+    }
+    false
 }
 
-// Both are nodes.
+// Whether both are nodes.
 pub fn nodes(count: usize, u: usize, w: usize) -> bool
     ensures { λ r. ⌜ r ≡ sides.nodes count u w ⌝ }
 {
@@ -32,6 +36,7 @@ pub fn nodes(count: usize, u: usize, w: usize) -> bool
     false
 }
 
+// Whether the smaller of two is the parent of the larger.
 pub fn adjacent(parents: &[u8; 256], u: usize, w: usize) -> bool
     requires { ⌜ length (now parents) ≡ 256 ⌝ }
     ensures { λ r. ⌜ r ≡ sides.adjacent (now (parents .entry)) u w ⌝ }
@@ -45,27 +50,7 @@ pub fn adjacent(parents: &[u8; 256], u: usize, w: usize) -> bool
     false
 }
 
-pub fn neighbours(count: usize, parents: &[u8; 256], u: usize, w: usize) -> bool
-    requires { ⌜ length (now parents) ≡ 256 ⌝ }
-    ensures { λ r. ⌜ r ≡ sides.neighbours count (now (parents .entry)) u w ⌝ }
-{
-    if nodes(count, u, w) {
-        return adjacent(parents, u, w);
-    }
-    false
-}
-
-pub fn is_below(count: usize, parents: &[u8; 256], i: usize, j: usize) -> bool
-    requires { ⌜ length (now parents) ≡ 256 ⌝ }
-    ensures { λ r. ⌜ r ≡ sides.isBelow count (now (parents .entry)) i j ⌝ }
-{
-    if nodes(count, i, j) {
-        return climbs(parents, i, j);
-    }
-    false
-}
-
-// Climbs from j until it meets i, the root, or has taken as many steps as j is large.
+// Climbs from j until it meets i or the root, or has taken as many steps as j is large.
 pub fn climbs(parents: &[u8; 256], i: usize, j: usize) -> bool
     requires { ⌜ length (now parents) ≡ 256 ⌝ }
     ensures { λ r. ⌜ r ≡ sides.below (now (parents .entry)) i j ⌝ }
@@ -83,4 +68,22 @@ pub fn climbs(parents: &[u8; 256], i: usize, j: usize) -> bool
         left -= 1;
     }
     at == i
+}
+
+// The parent of node i, 0 where there is no entry.
+pub fn parent(parents: &[u8; 256], i: usize) -> usize
+    requires { ⌜ length (now parents) ≡ 256 ⌝ }
+    ensures { λ r. ⌜ r ≡ specs.parent (now (parents .entry)) i ⌝ }
+{
+    if i < 256 {
+        return node(parents[i]);
+    }
+    0
+}
+
+// A node's number as an index.
+pub fn node(x: u8) -> usize
+    ensures { λ r. ⌜ r ≡ x ⌝ }
+{
+    x as usize
 }

@@ -2,6 +2,7 @@
 ghost use mathlib.Core.Path.{_≡_};
 ghost use Rattle.tree.specs.Parents.{entryInRule, entriesInRule, inRule};
 
+// Whether the count is 1 to 256 and all entries are in rule.
 pub fn in_rule(count: usize, parents: &[u8; 256]) -> bool
     ensures { λ r. ⌜ r ≡ inRule count (now (parents .entry)) ⌝ }
 {
@@ -14,6 +15,7 @@ pub fn in_rule(count: usize, parents: &[u8; 256]) -> bool
     entries_in_rule(count, parents)
 }
 
+// Whether all entries are in rule.
 pub fn entries_in_rule(count: usize, parents: &[u8; 256]) -> bool
     ensures { λ r. ⌜ r ≡ entriesInRule count (now (parents .entry)) 256 ⌝ }
 {
@@ -27,7 +29,7 @@ pub fn entries_in_rule(count: usize, parents: &[u8; 256]) -> bool
     true
 }
 
-// The entry at i: a parent smaller than its child, or zero where it is not used.
+// Whether the entry at i is: a parent smaller than its child, or zero where it is not used.
 pub fn entry_in_rule(count: usize, i: usize, parent: u8) -> bool
     ensures { λ r. ⌜ r ≡ entryInRule count i parent ⌝ }
 {

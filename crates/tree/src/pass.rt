@@ -7,6 +7,7 @@ ghost use Rattle.tree.specs.Parents.{Grown};
 ghost use Rattle.tree.specs.Sizes as spec;
 ghost use Rattle.tree.specs.Sizes.{sizeBelow, listed, ones};
 
+// The sizes below all nodes of a tree in rule, zeros for any other tree.
 pub fn sizes(count: usize, parents: &[u8; 256]) -> [u16; 256]
     ensures { λ r. ⌜ r ≡ spec.sizes count (now (parents .entry)) ⌝ }
 {
@@ -16,8 +17,8 @@ pub fn sizes(count: usize, parents: &[u8; 256]) -> [u16; 256]
     [0; 256]
 }
 
-// A node is complete when its turn comes, since its children are larger: it is then added to its
-// parent.
+// The sizes below all nodes. A node has all that is below it when its turn comes, since its
+// children are larger, and is then added to its parent.
 pub fn summed(count: usize, parents: &[u8; 256]) -> [u16; 256]
     requires { ⌜ (1 ≤ count) × ((count ≤ 256) × Grown (now parents) count) ⌝ }
     ensures { λ r. ⌜ r ≡ listed (sizeBelow (now (parents .entry)) count) 256 ⌝ }
