@@ -24,62 +24,62 @@ entry-unused n i p (inl e) = rw (le-ltb 0 i (omega arith))
 entry-unused n i p (inr h) = rw (le-ltb i n h, and-false (ltb 0 i))
 
 -- the turns of the test over all entries
-module _ (n : ℕ) (ps : List ℕ) where
-  pub entries-more : (i : ℕ) → entriesInRule n ps i ≡ true → entryInRule n i (parent ps i) ≡ true → entriesInRule n ps (i + 1) ≡ true
+module _ (ps : List ℕ) (n : ℕ) where
+  pub entries-more : (i : ℕ) → entriesInRule ps n i ≡ true → entryInRule n i (parent ps i) ≡ true → entriesInRule ps n (i + 1) ≡ true
   unfolding entriesInRule
   entries-more i h e = rw add-one (ap₂ _&&_ h e)
 
-  pub entries-fail : (i m : ℕ) → i < m → entryInRule n i (parent ps i) ≡ false → entriesInRule n ps m ≡ false
+  pub entries-fail : (i m : ℕ) → i < m → entryInRule n i (parent ps i) ≡ false → entriesInRule ps n m ≡ false
   unfolding entriesInRule
   entries-fail i zero h e = absurd (not-suc-le-zero h)
   entries-fail i (suc m) h e = order i m
       (λ l. ap (λ b. b && entryInRule n m (parent ps m)) (entries-fail i m l e))
-      (λ q. ap (λ b. entriesInRule n ps m && b) (ap (λ k. entryInRule n k (parent ps k)) (sym q) ∙ e) ∙ and-false (entriesInRule n ps m))
+      (λ q. ap (λ b. entriesInRule ps n m && b) (ap (λ k. entryInRule n k (parent ps k)) (sym q) ∙ e) ∙ and-false (entriesInRule ps n m))
       (λ l. absurd (omega arith))
 
-  entries-at : (m i : ℕ) → entriesInRule n ps m ≡ true → i < m → entryInRule n i (parent ps i) ≡ true
+  entries-at : (m i : ℕ) → entriesInRule ps n m ≡ true → i < m → entryInRule n i (parent ps i) ≡ true
   unfolding entriesInRule
   entries-at zero i e h = absurd (not-suc-le-zero h)
   entries-at (suc m) i e h =
-      let b = and-eq-true-iff (entriesInRule n ps m) (entryInRule n m (parent ps m)) .0 e in
+      let b = and-eq-true-iff (entriesInRule ps n m) (entryInRule n m (parent ps m)) .0 e in
       order i m (λ l. entries-at m i (b .0) l) (λ q. ap (λ k. entryInRule n k (parent ps k)) q ∙ b .1) (λ l. absurd (omega arith))
 
-  entries-of : (m : ℕ) → ((i : ℕ) → i < m → entryInRule n i (parent ps i) ≡ true) → entriesInRule n ps m ≡ true
+  entries-of : (m : ℕ) → ((i : ℕ) → i < m → entryInRule n i (parent ps i) ≡ true) → entriesInRule ps n m ≡ true
   unfolding entriesInRule
   entries-of zero f = refl
   entries-of (suc m) f = ap₂ _&&_ (entries-of m (λ i l. f i (omega arith))) (f m (omega arith))
 
   -- the count out of bounds
-  pub none-fails : n < 1 → inRule n ps ≡ false
+  pub none-fails : n < 1 → inRule ps n ≡ false
   unfolding inRule
   none-fails h = rw (lt-leb 1 n h)
 
-  pub many-fail : 256 < n → inRule n ps ≡ false
+  pub many-fail : 256 < n → inRule ps n ≡ false
   unfolding inRule
   many-fail h = rw (lt-leb n 256 h, and-false (leb 1 n))
 
-  pub within-bounds : 1 ≤ n → n ≤ 256 → inRule n ps ≡ entriesInRule n ps 256
+  pub within-bounds : 1 ≤ n → n ≤ 256 → inRule ps n ≡ entriesInRule ps n 256
   unfolding inRule
   within-bounds a b = rw (le-leb 1 n a, le-leb n 256 b)
 
 pub in-rule-exactly : In-rule-exactly
 unfolding inRule
-in-rule-exactly n ps = (facts, test)
+in-rule-exactly ps n = (facts, test)
   where
-    facts : inRule n ps ≡ true → InRule n ps
+    facts : inRule ps n ≡ true → InRule ps n
     facts e =
-        let a = and-eq-true-iff (leb 1 n) (leb n 256 && entriesInRule n ps 256) .0 e in
-        let b = and-eq-true-iff (leb n 256) (entriesInRule n ps 256) .0 (a .1) in
+        let a = and-eq-true-iff (leb 1 n) (leb n 256 && entriesInRule ps n 256) .0 e in
+        let b = and-eq-true-iff (leb n 256) (entriesInRule ps n 256) .0 (a .1) in
         let few = leb-true n 256 (b .0) in
         record {
           some = leb-true 1 n (a .0);
           few = few;
-          grown = λ i z h. ltb-true (parent ps i) i (sym (entry-used n i (parent ps i) z h) ∙ entries-at n ps 256 i (b .1) (omega arith));
-          unused = λ i h u. eqb-true (parent ps i) 0 (sym (entry-unused n i (parent ps i) u) ∙ entries-at n ps 256 i (b .1) h);
+          grown = λ i z h. ltb-true (parent ps i) i (sym (entry-used n i (parent ps i) z h) ∙ entries-at ps n 256 i (b .1) (omega arith));
+          unused = λ i h u. eqb-true (parent ps i) 0 (sym (entry-unused n i (parent ps i) u) ∙ entries-at ps n 256 i (b .1) h);
         }
 
-    test : InRule n ps → inRule n ps ≡ true
-    test r = within-bounds n ps (r .some) (r .few) ∙ entries-of n ps 256 each
+    test : InRule ps n → inRule ps n ≡ true
+    test r = within-bounds ps n (r .some) (r .few) ∙ entries-of ps n 256 each
       where
         each : (i : ℕ) → i < 256 → entryInRule n i (parent ps i) ≡ true
         each i h = order i 0

@@ -64,4 +64,4 @@ ones-more k h = listed-set (ones k) (ones (k + 1)) 256 k 1 h (rw (lt-ltb k (k + 
 
 pub sizes-read : Sizes-read
 unfolding sizes
-sizes-read n ps r i h = rw (in-rule-exactly n ps .1 r) (listed-read (sizeBelow ps n) 256 i h)
+sizes-read ps n r i h = rw (in-rule-exactly ps n .1 r) (listed-read (sizeBelow ps n) 256 i h)

@@ -16,7 +16,7 @@ abbrev pub Grown : List ℕ → ℕ → Type 0
 Grown ps n = (i : ℕ) → 0 < i → i < n → parent ps i < i
 
 -- A tree in rule: its count is 1 to 256, each parent is smaller than its child, and entries not used are zero.
-pub record InRule (n : ℕ) (ps : List ℕ) : Type 0 where
+pub record InRule (ps : List ℕ) (n : ℕ) : Type 0 where
   pub some : 1 ≤ n
   pub few : n ≤ 256
   pub grown : Grown ps n
@@ -26,9 +26,9 @@ pub record InRule (n : ℕ) (ps : List ℕ) : Type 0 where
 unfoldable pub entryInRule : ℕ → ℕ → ℕ → Bool
 entryInRule n i p = cond (ltb 0 i && ltb i n) (ltb p i) (eqb p 0)
 
-unfoldable pub entriesInRule : ℕ → List ℕ → ℕ → Bool
-entriesInRule n ps zero = true
-entriesInRule n ps (suc i) = entriesInRule n ps i && entryInRule n i (parent ps i)
+unfoldable pub entriesInRule : List ℕ → ℕ → ℕ → Bool
+entriesInRule ps n zero = true
+entriesInRule ps n (suc i) = entriesInRule ps n i && entryInRule n i (parent ps i)
 
-unfoldable pub inRule : ℕ → List ℕ → Bool
-inRule n ps = leb 1 n && (leb n 256 && entriesInRule n ps 256)
+unfoldable pub inRule : List ℕ → ℕ → Bool
+inRule ps n = leb 1 n && (leb n 256 && entriesInRule ps n 256)

@@ -19,7 +19,7 @@ use Rattle.tree.specs.Leaves.{Joins, Goes, raised}
 
 -- The test of a tree says what it should.
 abbrev pub In-rule-exactly : Type 0
-In-rule-exactly = (n : ℕ) (ps : List ℕ) → (inRule n ps ≡ true) ↔ InRule n ps
+In-rule-exactly = (ps : List ℕ) (n : ℕ) → (inRule ps n ≡ true) ↔ InRule ps n
 
 -- Exactly one neighbour of u leads to each other node.
 abbrev pub One-way : Type 0
@@ -94,7 +94,7 @@ Go-side = (ps : List ℕ) (m x : ℕ) (qs : List ℕ) → Grown ps (suc m) → G
 
 -- A tree in rule has at each place of its sizes how many nodes are below that node, which is the size of its side of the edge to its parent.
 abbrev pub Sizes-read : Type 0
-Sizes-read = (n : ℕ) (ps : List ℕ) → InRule n ps → (i : ℕ) → i < 256 → getD (sizes n ps) i 0 ≡ sizeBelow ps n i
+Sizes-read = (ps : List ℕ) (n : ℕ) → InRule ps n → (i : ℕ) → i < 256 → getD (sizes ps n) i 0 ≡ sizeBelow ps n i
 
 abbrev pub Size-below : Type 0
 Size-below = (ps : List ℕ) (n : ℕ) → Grown ps n → (i : ℕ) → 0 < i → i < n → sizeBelow ps n i ≡ size ps n i (parent ps i)

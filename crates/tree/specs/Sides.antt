@@ -20,16 +20,16 @@ unfoldable pub nodes : ℕ → ℕ → ℕ → Bool
 nodes n u w = ltb u n && ltb w n
 
 -- they are, and j is i or below it
-unfoldable pub isBelow : ℕ → List ℕ → ℕ → ℕ → Bool
-isBelow n ps i j = nodes n i j && below ps i j
+unfoldable pub isBelow : List ℕ → ℕ → ℕ → ℕ → Bool
+isBelow ps n i j = nodes n i j && below ps i j
 
 -- u and w have an edge between them: the larger is the child
 abbrev pub adjacent : List ℕ → ℕ → ℕ → Bool
 adjacent ps u w = cond (ltb u w) (eqb (parent ps w) u) (ltb w u && eqb (parent ps u) w)
 
 -- they are nodes, and have an edge
-unfoldable pub neighbours : ℕ → List ℕ → ℕ → ℕ → Bool
-neighbours n ps u w = nodes n u w && adjacent ps u w
+unfoldable pub neighbours : List ℕ → ℕ → ℕ → ℕ → Bool
+neighbours ps n u w = nodes n u w && adjacent ps u w
 
 -- j is on u's side of the edge of the neighbours u and v
 abbrev pub side : List ℕ → ℕ → ℕ → ℕ → Bool

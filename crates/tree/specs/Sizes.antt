@@ -26,5 +26,5 @@ listed f zero = []
 listed f (suc n) = listed f n ++ (f n ∷ [])
 
 -- the sizes below all nodes of a tree in rule, and zeros for a tree out of rule
-unfoldable pub sizes : ℕ → List ℕ → List ℕ
-sizes n ps = cond (inRule n ps) (listed (sizeBelow ps n) 256) (replicate 256 0)
+unfoldable pub sizes : List ℕ → ℕ → List ℕ
+sizes ps n = cond (inRule ps n) (listed (sizeBelow ps n) 256) (replicate 256 0)

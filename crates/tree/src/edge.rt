@@ -7,7 +7,7 @@ ghost use Rattle.tree.specs.Sides as sides;
 // Whether u and w are nodes with an edge between them.
 pub fn neighbours(count: usize, parents: &[u8; 256], u: usize, w: usize) -> bool
     requires { ⌜ length (now parents) ≡ 256 ⌝ }
-    ensures { λ r. ⌜ r ≡ sides.neighbours count (now (parents .entry)) u w ⌝ }
+    ensures { λ r. ⌜ r ≡ sides.neighbours (now (parents .entry)) count u w ⌝ }
 {
     if nodes(count, u, w) {
         return adjacent(parents, u, w);
@@ -18,7 +18,7 @@ pub fn neighbours(count: usize, parents: &[u8; 256], u: usize, w: usize) -> bool
 // Whether i and j are nodes, and j is i or below it.
 pub fn is_below(count: usize, parents: &[u8; 256], i: usize, j: usize) -> bool
     requires { ⌜ length (now parents) ≡ 256 ⌝ }
-    ensures { λ r. ⌜ r ≡ sides.isBelow count (now (parents .entry)) i j ⌝ }
+    ensures { λ r. ⌜ r ≡ sides.isBelow (now (parents .entry)) count i j ⌝ }
 {
     if nodes(count, i, j) {
         return climbs(parents, i, j);

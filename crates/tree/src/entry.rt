@@ -4,7 +4,7 @@ ghost use Rattle.tree.specs.Parents.{entryInRule, entriesInRule, inRule}
 
 // Whether the count is 1 to 256 and all entries are in rule.
 pub fn in_rule(count: usize, parents: &[u8; 256]) -> bool
-    ensures { λ r. ⌜ r ≡ inRule count (now (parents .entry)) ⌝ }
+    ensures { λ r. ⌜ r ≡ inRule (now (parents .entry)) count ⌝ }
 {
     if count < 1 {
         return false;
@@ -17,7 +17,7 @@ pub fn in_rule(count: usize, parents: &[u8; 256]) -> bool
 
 // Whether all entries are in rule.
 pub fn entries_in_rule(count: usize, parents: &[u8; 256]) -> bool
-    ensures { λ r. ⌜ r ≡ entriesInRule count (now (parents .entry)) 256 ⌝ }
+    ensures { λ r. ⌜ r ≡ entriesInRule (now (parents .entry)) count 256 ⌝ }
 {
     let mut i: usize = 0;
     while i < 256 {

@@ -9,7 +9,7 @@ ghost use Rattle.tree.specs.Sizes.{sizeBelow, listed, ones};
 
 // The sizes below all nodes of a tree in rule, zeros for any other tree.
 pub fn sizes(count: usize, parents: &[u8; 256]) -> [u16; 256]
-    ensures { λ r. ⌜ r ≡ spec.sizes count (now (parents .entry)) ⌝ }
+    ensures { λ r. ⌜ r ≡ spec.sizes (now (parents .entry)) count ⌝ }
 {
     if entry::in_rule(count, parents) {
         return summed(count, parents);

@@ -11,7 +11,7 @@ use Rattle.tree.proofs.entry.entries_in_rule.Statement.{statement}
 use Rattle.tree.proofs.entry.entries_in_rule.Tie as tie
 
 abbrev Inv-loop : tie.InvT-loop
-Inv-loop count parents i₀ i = (i ≤ 256) × (entriesInRule count parents i ≡ true)
+Inv-loop count parents i₀ i = (i ≤ 256) × (entriesInRule parents count i ≡ true)
 
 abbrev μ-loop : tie.MeasureT-loop
 μ-loop count parents i₀ i = 256 - i

@@ -7,10 +7,10 @@ use Rattle.tree.proofs.entry.in_rule.Statement.{statement}
 use Rattle.tree.proofs.entry.in_rule.Tie as tie
 
 returns : tie.Need-returns
-returns c = sym (none-fails (c .before .args .count) (c .before .args .parents .now) (omega arith))
+returns c = sym (none-fails (c .before .args .parents .now) (c .before .args .count) (omega arith))
 
 returns-2 : tie.Need-returns-2
-returns-2 c = sym (many-fail (c .before .before .args .count) (c .before .before .args .parents .now) (omega arith))
+returns-2 c = sym (many-fail (c .before .before .args .parents .now) (c .before .before .args .count) (omega arith))
 
 entries-in-rule-requires : tie.Need-entries-in-rule-requires
 entries-in-rule-requires c κs = search needs
