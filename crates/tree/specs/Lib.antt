@@ -1,6 +1,7 @@
 -- What a reader must believe of trees: parents, sides, what is folded over them, how a walk goes, and the promises.
 pub mod Parents
 pub mod Sides
+pub mod Paths
 pub mod Operation
 pub mod Sizes
 pub mod Ranges

@@ -10,6 +10,7 @@ use lib.ListN.{getD}
 use Rattle.fields.specs.Twos.{within}
 use Rattle.tree.specs.Parents.{parent, Grown, InRule, inRule}
 use Rattle.tree.specs.Sides.{adjacent, side, pointsTo, other}
+use Rattle.tree.specs.Paths.{Way}
 use Rattle.tree.specs.Operation.{Op, fold, aggregate, plus, sum}
 use Rattle.tree.specs.Sizes.{size, sizeBelow, sizes}
 use Rattle.tree.specs.Ranges.{Range}
@@ -31,6 +32,10 @@ Complementary = (ps : List ℕ) (u v j : ℕ) → u ≢ v → side ps u v j ≡ 
 
 abbrev pub Sizes-add : Type 0
 Sizes-add = (ps : List ℕ) (n : ℕ) → Grown ps n → (u v : ℕ) → u < n → v < n → adjacent ps v u ≡ true → size ps n u v + size ps n v u ≡ n
+
+-- (u,v) points to x exactly when v is on the path from u to x.
+abbrev pub Points-exactly : Type 0
+Points-exactly = (ps : List ℕ) (n : ℕ) → Grown ps n → (u v x : ℕ) → u < n → v < n → x < n → adjacent ps u v ≡ true → (pointsTo ps u v x ≡ true) ↔ Way ps n u v x
 
 -- For different neighbours r and v of u the side of (r,u) lies within that of (u,v),
 abbrev pub Nested : Type 0
