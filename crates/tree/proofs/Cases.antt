@@ -1,7 +1,7 @@
 -- Proofs by cases: by a decision, by the order of two numbers, by a test that cannot hold.
 use mathlib.Core.Path.{_≡_, refl}
 use mathlib.Core.Bool.{Bool, true, false}
-use Prim.Native.Nat.{ℕ, _<_}
+use Prim.Native.Nat.{ℕ, _<_, _≤_}
 use native.Mathlib.Decide.{ℕ-discrete, decLt}
 use native.Mathlib.Omega.{arith}
 
@@ -11,6 +11,9 @@ either (no a) f g = g a
 
 pub order {ℓ} : {X : Type ℓ} (a b : ℕ) → (a < b → X) → (a ≡ b → X) → (b < a → X) → X
 order a b f g h = either (decLt a b) f (λ p. either (ℕ-discrete a b) g (λ q. h (omega arith)))
+
+pub lt-or-le {ℓ} : {X : Type ℓ} (a b : ℕ) → (a < b → X) → (b ≤ a → X) → X
+lt-or-le a b f g = either (decLt a b) f (λ p. g (omega arith))
 
 pub never : (b : Bool) → (b ≡ true → ⊥) → b ≡ false
 never true f = absurd (f refl)

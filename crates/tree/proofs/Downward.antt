@@ -5,7 +5,7 @@ use mathlib.Core.Logic.{_≢_}
 use mathlib.Core.List.{List}
 use Prim.Native.Nat.{ℕ, zero, suc, _+_, _-_, _<_, _≤_}
 use native.Mathlib.Nat.{le-refl}
-use native.Mathlib.Decide.{ℕ-discrete, decLt}
+use native.Mathlib.Decide.{ℕ-discrete}
 use native.Mathlib.Omega.{arith}
 use lib.Dec.{eqb, ltb, leb}
 use lib.ListN.{getD, set}
@@ -14,7 +14,7 @@ use Rattle.tree.specs.Parents.{parent, Grown}
 use Rattle.tree.specs.Sides.{below, adjacent, side}
 use Rattle.tree.specs.Operation.{pick, aggregate, plus}
 use Rattle.tree.specs.Sizes.{sizeBelow, ones, listed}
-use Rattle.tree.proofs.Cases.{either, order}
+use Rattle.tree.proofs.Cases.{either, order, lt-or-le}
 use Rattle.tree.proofs.Folds.{related, same-nodes, same-where, zeros, pull}
 use Rattle.tree.proofs.Below.{below-self, below-root, below-step, below-lt, inherited}
 use Rattle.tree.proofs.Toward.{adjacent-ne}
@@ -33,9 +33,9 @@ child-not : (ps : List ℕ) (i w : ℕ) → w ≤ i → child ps i w ≡ false
 child-not ps i w l = rw (le-ltb i w l)
 
 larger-neighbour : (ps : List ℕ) (i w : ℕ) → (adjacent ps w i && ltb i w) ≡ child ps i w
-larger-neighbour ps i w = either (decLt i w)
+larger-neighbour ps i w = lt-or-le i w
     (λ l. rw (le-ltb w i (omega arith), lt-ltb i w l) (and-true (eqb (parent ps w) i)))
-    (λ l. rw (le-ltb i w (omega arith), and-false))
+    (λ l. rw (le-ltb i w l, and-false))
 
 -- what entry i holds when the nodes from c on have had their turns
 abbrev pub held : List ℕ → ℕ → ℕ → ℕ → ℕ
@@ -84,22 +84,17 @@ module _ (ps : List ℕ) (n : ℕ) (grown : Grown ps n) where
 
   -- a node whose children have had their turns holds all that is below it,
   pub held-all : (c d : ℕ) → c ≤ suc d → d < n → held ps n c d ≡ sizeBelow ps n d
-  held-all c d l h = rw (lt-ltb d n h) (ap (λ k. 1 + k) (same-nodes plus (λ w. leb c w && child ps d w) (child ps d) (sizeBelow ps n) n (λ w k. either (decLt d w)
+  held-all c d l h = rw (lt-ltb d n h) (ap (λ k. 1 + k) (same-nodes plus (λ w. leb c w && child ps d w) (child ps d) (sizeBelow ps n) n (λ w k. lt-or-le d w
       (λ m. rw (le-leb c w (omega arith)))
-      (λ m. rw (child-not ps d w (omega arith)) (and-false (leb c w))))) ∙ sym (below-law d h))
+      (λ m. rw (child-not ps d w m) (and-false (leb c w))))) ∙ sym (below-law d h))
 
   -- and at last so do all entries: those of no node hold nothing.
   pub held-last : (i : ℕ) → held ps n 1 i ≡ sizeBelow ps n i
-  held-last i = order i n
+  held-last i = lt-or-le i n
       (λ l. held-all 1 i (omega arith) l)
-      (λ e. nothing (omega arith))
-      (λ l. nothing (omega arith))
-    where
-      nothing : n ≤ i → held ps n 1 i ≡ sizeBelow ps n i
-      nothing l =
-          let a = zeros plus (λ w. pick plus (leb 1 w && child ps i w) (sizeBelow ps n w)) n (λ w k. rw (child-not ps i w (omega arith), and-false (leb 1 w))) in
-          let b = zeros plus (λ j. pick plus (below ps i j) 1) n (λ j k. rw (below-lt ps n grown i j k (omega arith))) in
-          rw (le-ltb i n l) (omega (arith, a, b))
+      (λ l. let a = zeros plus (λ w. pick plus (leb 1 w && child ps i w) (sizeBelow ps n w)) n (λ w k. rw (child-not ps i w (omega arith), and-false (leb 1 w))) in
+      let b = zeros plus (λ j. pick plus (below ps i j) 1) n (λ j k. rw (below-lt ps n grown i j k (omega arith))) in
+      rw (le-ltb i n l) (omega (arith, a, b)))
 
   -- no entry ever holds more than all nodes
   pub held-most : (c i : ℕ) → i < n → held ps n c i ≤ n
@@ -129,9 +124,9 @@ module _ (ps : List ℕ) (n : ℕ) (grown : Grown ps n) where
         (λ o. later i w o))))
       where
         no-child : child ps i d ≡ false
-        no-child = either (decLt i d)
+        no-child = lt-or-le i d
             (λ l. child-is ps i d l ∙ ne-eqb (parent ps d) i (λ o. ne (sym o)))
-            (λ l. child-not ps i d (omega arith))
+            (λ l. child-not ps i d l)
 
     pub turn-parent : held ps n d (parent ps d) ≡ held ps n (suc d) (parent ps d) + held ps n (suc d) d
     turn-parent =

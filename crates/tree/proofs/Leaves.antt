@@ -3,7 +3,7 @@ use mathlib.Core.Path.{_≡_, refl, sym, ap, _∙_}
 use mathlib.Core.Logic.{_≢_}
 use mathlib.Core.List.{List}
 use Prim.Native.Nat.{ℕ, zero, suc, _-_, _<_, _≤_}
-use native.Mathlib.Decide.{ℕ-discrete, decLt}
+use native.Mathlib.Decide.{ℕ-discrete}
 use native.Mathlib.Omega.{arith}
 use lib.Dec.{eqb, ltb}
 use borrow.Author.Tests.{lt-ltb, le-ltb, eq-eqb, ne-eqb}
@@ -11,7 +11,7 @@ use Rattle.tree.specs.Parents.{parent, Grown}
 use Rattle.tree.specs.Sides.{below, adjacent, side}
 use Rattle.tree.specs.Leaves.{Joins, Goes, lowered, raised}
 use Rattle.tree.specs.Promises.{Join-grown, Join-adjacent, Join-side, Join-leaf, Go-grown, Go-adjacent, Go-side}
-use Rattle.tree.proofs.Cases.{either, order}
+use Rattle.tree.proofs.Cases.{either, order, lt-or-le}
 use Rattle.tree.proofs.Below.{below-root, below-step, inherited}
 
 -- ONE LAW FOR RENUMBERING: a map σ of the nodes of the tree qs into those of ps that keeps the root, the parents and the order keeps neighbours and sides
@@ -76,7 +76,7 @@ join-leaf ps n p qs grown joins u v hu hv = rw (below-leaf ps n p qs grown joins
 -- ---- a leaf goes
 
 raised-cases : {X : Type 0} (x j : ℕ) → (j < x → raised x j ≡ j → X) → (x ≤ j → raised x j ≡ suc j → X) → X
-raised-cases x j f g = either (decLt j x) (λ a. f a (rw (lt-ltb j x a))) (λ a. g (omega arith) (rw (le-ltb j x (omega arith))))
+raised-cases x j f g = lt-or-le j x (λ a. f a (rw (lt-ltb j x a))) (λ a. g a (rw (le-ltb j x a)))
 
 raised-lowered : (x y : ℕ) → y ≢ x → raised x (lowered x y) ≡ y
 raised-lowered x y d = order y x

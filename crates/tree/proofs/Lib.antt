@@ -1,5 +1,6 @@
 -- The laws of trees, by what they say.
 pub mod Cases
+pub mod Every
 pub mod InRule
 pub mod Folds
 pub mod Below

@@ -2,7 +2,6 @@
 use mathlib.Core.Path.{_≡_, refl, sym, ap, _∙_}
 use mathlib.Core.Bool.{Bool, true, false, _&&_, and-true}
 use Prim.Native.Nat.{ℕ, zero, suc, _+_, _-_, _*_, _^_, _<_, _≤_}
-use native.Mathlib.Decide.{decLt}
 use native.Mathlib.Omega.{arith}
 use lib.Dec.{leb, ltb, leb·zero, leb·suc-zero, leb·suc-suc}
 use lib.IntN.{ℤ, pos, negsuc, negℤ, subℕ, _+ℤ_}
@@ -12,7 +11,7 @@ use Rattle.fields.specs.Twos.{within}
 use Rattle.tree.specs.Operation.{pick, plus, sum}
 use Rattle.tree.specs.Ranges.{inRange, Range}
 use Rattle.tree.specs.Promises.{Range-of-one, Range-adds, Range-of-nodes, Range-fits}
-use Rattle.tree.proofs.Cases.{either}
+use Rattle.tree.proofs.Cases.{lt-or-le}
 use Rattle.tree.proofs.Folds.{related}
 
 -- the range by the sign, in numbers
@@ -46,7 +45,7 @@ range k (negsuc n) h = record { within = range-negsuc k n ∙ lt-ltb n (k * 2147
 
 -- a - b is in range where both of its outcomes are
 difference : (k a b : ℕ) → (a < b → b - suc a < k * 2147483648) → (b ≤ a → a - b ≤ k * 2147483647) → Within k (subℕ a b)
-difference k a b f g = either (decLt a b) (λ l. rw (lt-ltb a b l) (f l)) (λ l. rw (le-ltb a b (omega arith)) (g (omega arith)))
+difference k a b f g = lt-or-le a b (λ l. rw (lt-ltb a b l) (f l)) (λ l. rw (le-ltb a b l) (g l))
 
 adds : (j k : ℕ) (y z : ℤ) → Within j y → Within k z → Within (j + k) (y +ℤ z)
 adds j k (pos a) (pos b) h l = omega arith

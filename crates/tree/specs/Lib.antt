@@ -1,4 +1,5 @@
 -- What a reader must believe of trees: parents, sides, what is folded over them, how a walk goes, and the promises.
+pub mod Every
 pub mod Parents
 pub mod Sides
 pub mod Paths

@@ -1,11 +1,12 @@
 -- A tree by its parent numbers: node 0 is the root, and every other node's parent is smaller than the node.
 use mathlib.Core.Path.{_≡_}
-use mathlib.Core.Bool.{Bool, true, cond, _&&_}
+use mathlib.Core.Bool.{Bool, cond, _&&_}
 use mathlib.Core.Logic.{_⊎_}
 use mathlib.Core.List.{List}
-use Prim.Native.Nat.{ℕ, zero, suc, _≤_, _<_}
+use Prim.Native.Nat.{ℕ, _≤_, _<_}
 use lib.Dec.{eqb, ltb, leb}
 use lib.ListN.{getD}
+use Rattle.tree.specs.Every.{every}
 
 -- the parent of node i
 abbrev pub parent : List ℕ → ℕ → ℕ
@@ -22,13 +23,12 @@ pub record InRule (ps : List ℕ) (n : ℕ) : Type 0 where
   pub grown : Grown ps n
   pub unused : (i : ℕ) → i < 256 → (i ≡ 0) ⊎ (n ≤ i) → parent ps i ≡ 0
 
--- the same as a test: the entry p at i, all entries below i, the tree
+-- the same as a test: of p as the entry at i, of the tree's entry at i, and of the tree
 unfoldable pub entryInRule : ℕ → ℕ → ℕ → Bool
 entryInRule n i p = cond (ltb 0 i && ltb i n) (ltb p i) (eqb p 0)
 
-unfoldable pub entriesInRule : List ℕ → ℕ → ℕ → Bool
-entriesInRule ps n zero = true
-entriesInRule ps n (suc i) = entriesInRule ps n i && entryInRule n i (parent ps i)
+abbrev pub entryAt : List ℕ → ℕ → ℕ → Bool
+entryAt ps n i = entryInRule n i (parent ps i)
 
 unfoldable pub inRule : List ℕ → ℕ → Bool
-inRule ps n = leb 1 n && (leb n 256 && entriesInRule ps n 256)
+inRule ps n = leb 1 n && (leb n 256 && every (entryAt ps n) 256)

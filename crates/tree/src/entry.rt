@@ -1,6 +1,7 @@
 // Which entries of a tree are in rule.
 ghost use mathlib.Core.Path.{_≡_};
-ghost use Rattle.tree.specs.Parents.{entryInRule, entriesInRule, inRule};
+ghost use Rattle.tree.specs.Every.{every};
+ghost use Rattle.tree.specs.Parents.{entryInRule, entryAt, inRule};
 
 // Whether the count is 1 to 256 and all entries are in rule.
 pub fn in_rule(count: usize, parents: &[u8; 256]) -> bool
@@ -17,7 +18,7 @@ pub fn in_rule(count: usize, parents: &[u8; 256]) -> bool
 
 // Whether all entries are in rule.
 pub fn entries_in_rule(count: usize, parents: &[u8; 256]) -> bool
-    ensures { λ r. ⌜ r ≡ entriesInRule (now (parents .entry)) count 256 ⌝ }
+    ensures { λ r. ⌜ r ≡ every (entryAt (now (parents .entry)) count) 256 ⌝ }
 {
     let mut i: usize = 0;
     while i < 256 {
