@@ -19,27 +19,6 @@ use Rattle.tree.proofs.Below.{below-step}
 use Rattle.tree.proofs.Toward.{adjacent-ne, adjacent-sym, complementary, next, unique, not-own, own, nested}
 use Rattle.tree.proofs.Sizes.{size-least, size-less}
 
-edge-of : {ps : List ℕ} {n u v x : ℕ} → Way ps n u v x → adjacent ps u v ≡ true
-edge-of (arrives hu hv a) = a
-edge-of (goes-on hu hv a ne r) = a
-
--- a path from u by v leads to the nodes of v's side,
-leads : (ps : List ℕ) (n : ℕ) → Grown ps n → {u v x : ℕ} → x < n → Way ps n u v x → pointsTo ps u v x ≡ true
-leads ps n grown hx (arrives {u} {v} hu hv a) = own ps n grown v u hv a
-leads ps n grown {x = x} hx (goes-on {u} {v} {w} hu hv a ne r) = nested ps n grown v w u x hv hx (adjacent-sym ps w v ∙ edge-of r) a (λ o. ne (sym o)) (leads ps n grown hx r)
-
--- and to each of them there is one
-finds : (ps : List ℕ) (n : ℕ) → Grown ps n → (s u v x : ℕ) → size ps n v u ≤ s → u < n → v < n → x < n → adjacent ps u v ≡ true → pointsTo ps u v x ≡ true → Way ps n u v x
-finds ps n grown zero u v x l hu hv hx a t = absurd (omega (arith, size-least ps n grown v u hv a))
-finds ps n grown (suc s) u v x l hu hv hx a t = either (ℕ-discrete x v)
-    (λ e. rw e (arrives hu hv a))
-    (λ d. let q = next ps n grown v x hv hx d in
-    let ne : u ≢ q .0 = λ o. true≢false (sym t ∙ complementary ps v u x (adjacent-ne ps v u (adjacent-sym ps v u ∙ a)) ∙ ap not (rw (← o) at (q .3))) in
-    goes-on hu hv a ne (finds ps n grown s v (q .0) x (omega (arith, size-less ps n grown v u hv a (q .0) (q .1) (q .2) ne)) hv (q .1) hx (adjacent-sym ps v (q .0) ∙ q .2) (q .3)))
-
-pub points-exactly : Points-exactly
-points-exactly ps n grown u v x hu hv hx a = (finds ps n grown (size ps n v u) u v x (le-refl (size ps n v u)) hu hv hx a, leads ps n grown hx)
-
 -- INDUCTION ALONG THE PATHS FROM x: what holds of the pairs that leave x, and goes on from a pair to the next away from x,
 -- holds of every pair that has x on its own side. Turned round (P v u for P u v) it speaks of the pairs that point to x.
 module _ (ps : List ℕ) (n : ℕ) (grown : Grown ps n) (x : ℕ) (hx : x < n) (P : ℕ → ℕ → Type 0)
@@ -56,6 +35,22 @@ module _ (ps : List ℕ) (n : ℕ) (grown : Grown ps n) (x : ℕ) (hx : x < n) (
 
   pub spread : (u v : ℕ) → u < n → v < n → adjacent ps v u ≡ true → side ps u v x ≡ true → P u v
   spread u v = spreads (size ps n u v) u v (le-refl (size ps n u v))
+
+edge-of : {ps : List ℕ} {n u v x : ℕ} → Way ps n u v x → adjacent ps u v ≡ true
+edge-of (arrives hu hv a) = a
+edge-of (goes-on hu hv a ne r) = a
+
+-- a path from u by v leads to nodes of v's side
+leads : (ps : List ℕ) (n : ℕ) → Grown ps n → {u v x : ℕ} → x < n → Way ps n u v x → pointsTo ps u v x ≡ true
+leads ps n grown hx (arrives {u} {v} hu hv a) = own ps n grown v u hv a
+leads ps n grown {x = x} hx (goes-on {u} {v} {w} hu hv a ne r) = nested ps n grown v w u x hv hx (adjacent-sym ps w v ∙ edge-of r) a (λ o. ne (sym o)) (leads ps n grown hx r)
+
+-- and there is one to each of them
+pub points-exactly : Points-exactly
+points-exactly ps n grown u v x hu hv hx a = (found, leads ps n grown hx)
+  where
+    found : pointsTo ps u v x ≡ true → Way ps n u v x
+    found = spread ps n grown x hx (λ w z. Way ps n z w x) (λ z hz b. arrives hz hx b) (λ k w z hk hw hz b c ne s r. goes-on hz hw c (λ o. ne (sym o)) r) v u hv hu a
 
 -- the smaller of two neighbours is the parent
 parent-is : (ps : List ℕ) (s t : ℕ) → s < t → adjacent ps s t ≡ true → parent ps t ≡ s
