@@ -1,5 +1,4 @@
 -- The laws, from one digit up to what a caller of the public functions cites.
-pub mod Tests
 pub mod Digits
 pub mod Bits
 pub mod Kept

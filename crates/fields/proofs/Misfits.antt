@@ -1,6 +1,6 @@
 -- When encoding and decoding are refused.
 use mathlib.Core.Path.{_≡_}
-use mathlib.Core.Bool.{true}
+use mathlib.Core.Bool.{true, and-eq-true-iff}
 use Prim.Native.Nat.{ℕ, _-_, _^_, _≤_, _<_}
 use native.Mathlib.Omega.{arith}
 use lib.Dec.{leb, ltb}
@@ -8,7 +8,6 @@ use lib.IntN.{ℤ}
 use lib.Signed.{mag}
 use borrow.Author.Tests.{le-leb, lt-ltb, leb-true, ltb-true}
 use Rattle.fields.specs.Twos.{wide, within, encodes, decodes}
-use Rattle.fields.proofs.Tests.{both}
 
 module _ (w : ℕ) where
   pub wide-there : 0 < w → w ≤ 64 → wide w ≡ true
@@ -18,7 +17,7 @@ module _ (w : ℕ) where
   pub wide-is : wide w ≡ true → (0 < w) × (w ≤ 64)
   unfolding wide
   wide-is e =
-      let t = both (leb 1 w) (leb w 64) e in
+      let t = and-eq-true-iff (leb 1 w) (leb w 64) .0 e in
       (omega (arith, leb-true 1 w (t .0)), leb-true w 64 (t .1))
 
   pub encodes-there : (z : ℤ) → 0 < w → w ≤ 64 → mag z < 2 ^ (w - 1) → encodes w z ≡ true
@@ -28,7 +27,7 @@ module _ (w : ℕ) where
   pub encodes-is : (z : ℤ) → encodes w z ≡ true → (0 < w) × (w ≤ 64) × (mag z < 2 ^ (w - 1))
   unfolding encodes
   encodes-is z e =
-      let t = both (wide w) (within w z) e in
+      let t = and-eq-true-iff (wide w) (within w z) .0 e in
       let h = wide-is (t .0) in
       (h .0, h .1, ltb-true (mag z) (2 ^ (w - 1)) (t .1))
 
@@ -39,6 +38,6 @@ module _ (w : ℕ) where
   pub decodes-is : (n : ℕ) → decodes w n ≡ true → (0 < w) × (w ≤ 64) × (n < 2 ^ w)
   unfolding decodes
   decodes-is n e =
-      let t = both (wide w) (ltb n (2 ^ w)) e in
+      let t = and-eq-true-iff (wide w) (ltb n (2 ^ w)) .0 e in
       let h = wide-is (t .0) in
       (h .0, h .1, ltb-true n (2 ^ w) (t .1))

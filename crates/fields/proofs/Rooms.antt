@@ -1,6 +1,6 @@
 -- When reading and writing are refused, and that what was taken is read.
 use mathlib.Core.Path.{_≡_, refl, sym, ap, _∙_}
-use mathlib.Core.Bool.{Bool, true, false, cond, and-false, true≢false}
+use mathlib.Core.Bool.{Bool, true, false, cond, and-false, true≢false, and-eq-true-iff}
 use mathlib.Core.Logic.{_⊎_, inl, inr, ⊎-elim}
 use Prim.Native.Nat.{ℕ, _+_, _-_, _^_, _≤_, _<_}
 use native.Mathlib.Nat.{suc-ne-zero}
@@ -13,7 +13,6 @@ use Rattle.fields.specs.Fields.{field}
 use Rattle.fields.specs.Usable.{usableBits, lies, takes, fieldAt, putAt, told}
 use Rattle.fields.specs.Promises.{Found-exactly, Refused-exactly, Taken-exactly, Taken-is-read, Refused-is-kept}
 use Rattle.fields.specs.declared.Field.the-variants.{Value, Short}
-use Rattle.fields.proofs.Tests.{both}
 use Rattle.fields.proofs.Kept.{length-kept}
 use Rattle.fields.proofs.ReadBack.{read-back}
 
@@ -43,7 +42,7 @@ module _ (n place w : ℕ) where
   pub lying : lies n place w ≡ true → (w ≤ 64) × (place + w ≤ usableBits n)
   unfolding lies
   lying e =
-      let t = both (leb w 64) (leb (place + w) (usableBits n)) e in
+      let t = and-eq-true-iff (leb w 64) (leb (place + w) (usableBits n)) .0 e in
       (leb-true w 64 (t .0), leb-true (place + w) (usableBits n) (t .1))
 
   pub missing : lies n place w ≡ false → (64 < w) ⊎ (usableBits n < place + w)
@@ -84,7 +83,7 @@ pub taken-exactly : Taken-exactly
 unfolding takes
 taken-exactly n place w v = (
   λ e.
-      let t = both (lies n place w) (ltb v (2 ^ w)) e in
+      let t = and-eq-true-iff (lies n place w) (ltb v (2 ^ w)) .0 e in
       let h = lying n place w (t .0) in
       (h .0, h .1, ltb-true v (2 ^ w) (t .1)),
   λ h. rw (there n place w (h .0) (h .1), lt-ltb v (2 ^ w) (h .2)),
