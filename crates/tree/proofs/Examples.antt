@@ -9,10 +9,10 @@ use Rattle.tree.specs.Turns.{turn, joined}
 use Rattle.tree.specs.Tours.{visit, tour}
 
 -- node 0 with children 1, 2, 3; and 0-1-2 in a path
-abbrev star : List ℕ
+abbrev pub star : List ℕ
 star = 0 ∷ 0 ∷ 0 ∷ 0 ∷ []
 
-abbrev path : List ℕ
+abbrev pub path : List ℕ
 path = 0 ∷ 0 ∷ 1 ∷ []
 
 -- of the star's pairs, (0,1), (2,0) and (3,0) point to 1

@@ -17,3 +17,4 @@ pub mod Leaves
 pub mod Ranges
 pub mod Outcomes
 pub mod Examples
+pub mod Instances
