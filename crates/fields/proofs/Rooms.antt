@@ -2,6 +2,7 @@
 use mathlib.Core.Path.{_≡_, refl, sym, ap, _∙_}
 use mathlib.Core.Bool.{Bool, true, false, cond, and-false, true≢false, and-eq-true-iff}
 use mathlib.Core.Logic.{_⊎_, inl, inr, ⊎-elim}
+use mathlib.Core.List.{List}
 use Prim.Native.Nat.{ℕ, _+_, _-_, _^_, _≤_, _<_}
 use native.Mathlib.Nat.{suc-ne-zero}
 use native.Mathlib.Decide.{decLe}
@@ -9,7 +10,7 @@ use native.Mathlib.Omega.{arith}
 use lib.Dec.{leb, ltb}
 use borrow.Author.Tests.{le-leb, lt-leb, lt-ltb, leb-true, ltb-true}
 use lib.ListN.{length}
-use Rattle.fields.specs.Fields.{field}
+use Rattle.fields.specs.Fields.{field, putField}
 use Rattle.fields.specs.Usable.{usableBits, lies, takes, fieldAt, putAt, told}
 use Rattle.fields.specs.Promises.{Found-exactly, Refused-exactly, Taken-exactly, Taken-is-read, Refused-is-kept}
 use Rattle.fields.specs.declared.Field.the-variants.{Value, Short}
@@ -77,6 +78,13 @@ refused-exactly s place w = (
     go true p e = absurd (suc-ne-zero 0 (sym (ap (λ (t : ℕ × ℕ). t .0) e)))
     go false p e = missing (length s) place w p
 
+-- what an answer tells
+pub found : (s : List ℕ) (place w v : ℕ) → fieldAt s place w ≡ Value v → (w ≤ 64) × (place + w ≤ usableBits (length s)) × (v ≡ field s place w)
+found s place w v e = found-exactly s place w v .0 (ap told e)
+
+pub cut-off : (s : List ℕ) (place w : ℕ) → w ≤ 64 → fieldAt s place w ≡ Short → usableBits (length s) < place + w
+cut-off s place w h e = ⊎-elim (λ (l : 64 < w). absurd (omega arith)) (λ l. l) (refused-exactly s place w .0 (ap told e))
+
 -- ---- writing
 
 pub taken-exactly : Taken-exactly
@@ -88,6 +96,10 @@ taken-exactly n place w v = (
       (h .0, h .1, ltb-true v (2 ^ w) (t .1)),
   λ h. rw (there n place w (h .0) (h .1), lt-ltb v (2 ^ w) (h .2)),
 )
+
+pub taken-is-put : (s : List ℕ) (place w v : ℕ) → w ≤ 64 → place + w ≤ usableBits (length s) → v < 2 ^ w → putAt s place w v ≡ putField s place w v
+unfolding putAt
+taken-is-put s place w v h l m = rw (taken-exactly (length s) place w v .1 (h, l, m))
 
 pub taken-is-read : Taken-is-read
 unfolding putAt fieldAt

@@ -1,0 +1,5 @@
+-- The laws of packed fields, by what they say.
+pub mod Zeros
+pub mod Packing
+pub mod Filling
+pub mod Outcomes

@@ -1,0 +1,8 @@
+-- The laws of tables, by what they say.
+pub mod Widths
+pub mod Verdicts
+pub mod Turns
+pub mod Stores
+pub mod Tables
+pub mod RoundTrip
+pub mod Outcomes

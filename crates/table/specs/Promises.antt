@@ -1,0 +1,49 @@
+-- What is promised of tables. The theorem that proves a statement bears its name in small letters.
+use mathlib.Core.Path.{_≡_}
+use mathlib.Core.Bool.{true}
+use mathlib.Core.List.{List, _++_}
+use mathlib.Core.Logic.{_↔_}
+use Prim.Native.Nat.{ℕ, _^_, _*_, _+_, _≤_, _<_}
+use lib.ListN.{length, take, drop}
+use Rattle.fields.specs.Bits.{Bytes}
+use Rattle.tree.specs.Parents.{inRule}
+use Rattle.tree.specs.declared.Tree.{Tree}
+use Rattle.table.specs.Layout.{long}
+use Rattle.table.specs.Format.{Judged}
+use Rattle.table.specs.Reading.{accepted, refused, readingOf}
+use Rattle.table.specs.Writing.{tableOf, Answered, writtenOf, outputOf}
+use Rattle.table.specs.declared.Written.{Written}
+
+-- A parent field is as wide as it must be and no wider: k + 1 numbers have room in it, and half as many would be too few.
+abbrev pub Width-exactly : Type 0
+Width-exactly = (k : ℕ) → k < 2 ^ 64 → (k < 2 ^ long k) × (2 ^ long k ≤ 2 * k + 1)
+
+-- The reader refuses exactly as the format says,
+abbrev pub Judged-exactly : Type 0
+Judged-exactly = (s : List ℕ) (r : ℕ) → (readingOf s .refusal ≡ r) ↔ Judged s r
+
+-- and answers zeros where it refuses.
+abbrev pub Refused-with-zeros : Type 0
+Refused-with-zeros = (s : List ℕ) → 0 < readingOf s .refusal → readingOf s ≡ refused (readingOf s .refusal)
+
+-- Bytes are read as a tree exactly where the tree is in rule and the bytes are its table.
+abbrev pub Table-exactly : Type 0
+Table-exactly = (s : List ℕ) (t : Tree) → Bytes s → length (t .parents) ≡ 256 → (readingOf s ≡ accepted t) ↔ ((inRule (t .parents) (t .count) ≡ true) × (s ≡ tableOf t))
+
+-- What the writer writes, into any output that is long enough, the reader reads back as the same tree.
+abbrev pub Table-reads-back : Type 0
+Table-reads-back = (t : Tree) (out : List ℕ) → length (t .parents) ≡ 256 → writtenOf t (length out) .refusal ≡ 0
+    → readingOf (take (writtenOf t (length out) .bytes) (outputOf t out)) ≡ accepted t
+
+-- An accepted table writes back to its own bytes, with later bytes as they were.
+abbrev pub Table-writes-back : Type 0
+Table-writes-back = (s : List ℕ) (t : Tree) (out : List ℕ) → Bytes s → readingOf s ≡ accepted t → length s ≤ length out
+    → (writtenOf t (length out) ≡ record { refusal = 0; bytes = length s }) × (outputOf t out ≡ s ++ drop (length s) out)
+
+-- The writer refuses exactly as document 01 says,
+abbrev pub Written-exactly : Type 0
+Written-exactly = (t : Tree) (room : ℕ) (w : Written) → (writtenOf t room ≡ w) ↔ Answered t room w
+
+-- and changes nothing where it refuses.
+abbrev pub Refused-output-kept : Type 0
+Refused-output-kept = (t : Tree) (out : List ℕ) → 0 < writtenOf t (length out) .refusal → outputOf t out ≡ out
