@@ -49,10 +49,10 @@ module _ (s : List ℕ) (place : ℕ) where
   unfolding ends
   ends-more h = rw (ne-eqb (length s) (bytesFor place) h) (and-false (leb place (usableBits (length s))))
 
-  module _ (u : place ≤ usableBits (length s)) (e : length s ≡ bytesFor place) where
-    pub ends-there : fieldAt s place (left place) ≡ Short → ⊥
-    ends-there f = omega (arith, cut-off s place (left place) (omega arith) f)
+  module _ (u : place ≤ usableBits (length s)) (e : length s ≡ bytesFor place) (w : ℕ) (q : w ≡ left place) where
+    pub ends-there : fieldAt s place w ≡ Short → ⊥
+    ends-there f = omega (arith, cut-off s place w (omega arith) f)
 
-    pub ends-as : (n : ℕ) → fieldAt s place (left place) ≡ Value n → eqb n 0 ≡ ends s place
+    pub ends-as : (n : ℕ) → fieldAt s place w ≡ Value n → eqb n 0 ≡ ends s place
     unfolding ends
-    ends-as n f = rw (le-leb place (usableBits (length s)) u, eq-eqb (length s) (bytesFor place) e, ← found s place (left place) n f .2)
+    ends-as n f = rw (le-leb place (usableBits (length s)) u, eq-eqb (length s) (bytesFor place) e, ← q, ← found s place w n f .2)

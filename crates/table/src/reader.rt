@@ -20,12 +20,13 @@ pub fn nodes(bytes: &[u8], count: usize) -> Reading
         let fields::Field::Value(parent) = fields::get(bytes, place, w) else {
             return refused(1);
         };
-        if (k as u64) < parent {
+        let child = k + 1;
+        if child as u64 <= parent {
             return refused(3);
         }
-        parents[k + 1] = parent as u8;
+        parents[child] = parent as u8;
         place = place + w;
-        k = k + 1;
+        k = child;
     }
     if !packed::ends(bytes, place) {
         return refused(4);

@@ -16,7 +16,7 @@ add-whole : tie.Need-add-whole
 add-whole c = search needs
 
 returns-2 : tie.Need-returns-2
-returns-2 c = sym (ends-more _ _ (c .if2 .taken))
+returns-2 c = sym (ends-more _ _ (λ e. omega arith))
 
 mul-get : tie.Need-mul-get
 mul-get c = search needs
@@ -34,10 +34,10 @@ enum-told : tie.Need-enum-told
 enum-told c = search needs
 
 returns-3 : tie.Need-returns-3
-returns-3 c = absurd (ends-there _ _ (omega arith) (c .before .before .before .if2 .left) (sym (c .before .before .get .ensures) ∙ c .enum-told .given .1))
+returns-3 c = absurd (ends-there _ _ (omega arith) (omega arith) _ (omega arith) (sym (c .before .before .get .ensures) ∙ c .enum-told .given .1))
 
 returns-4 : tie.Need-returns-4
-returns-4 c = ends-as _ _ (omega arith) (c .before .before .before .before .if2 .left) _ (sym (c .before .before .before .get .ensures) ∙ c .before .filling .given .1)
+returns-4 c = ends-as _ _ (omega arith) (omega arith) _ (omega arith) _ (sym (c .before .before .before .get .ensures) ∙ c .before .filling .given .1)
 
 pub ends-spec : {M : Type 1} → statement M
 ends-spec =

@@ -1,6 +1,7 @@
 -- `write` meets its contract: each refusal leaves the output, and the table is written over zeros.
 use mathlib.Core.Path.{_≡_, sym, _∙_}
 use mathlib.Core.Bool.{true}
+use native.Mathlib.Omega.{arith}
 use borrow.Author.Tests.{not-true, not-false}
 use Rattle.tree.specs.Parents.{InRule, inRule}
 use Rattle.tree.specs.declared.Tree.{Tree}
@@ -39,7 +40,7 @@ size-requires : tie.Need-size-requires
 size-requires c κs = let r = in-rule-exactly _ _ .0 (sym (c .before .in-rule .ensures) ∙ not-false _ (c .if1 .left)) in (r .some, r .few)
 
 returns-2 : tie.Need-returns-2
-returns-2 c = too-short _ _ (passed (c .before)) _ (c .before .size .ensures) (c .if2 .taken)
+returns-2 c = too-short (t (c .before)) (c .before .before .before .before .before .args .out .now) (passed (c .before)) (c .before .size .result) (c .before .size .ensures) (omega arith)
 
 clear-requires : tie.Need-clear-requires
 clear-requires c κs = search needs

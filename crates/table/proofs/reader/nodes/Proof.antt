@@ -33,16 +33,16 @@ module _ (g : tie.After-get Inv-loop μ-loop) where
       parent-cut _ _ (start .pre) _ _ _ (g .before .before .before .loop .inv) (g .before .before .loop-test .taken) _ (g .before .of-parent .ensures)
       (sym (g .get .ensures) ∙ e)
 
-  wrong : (p : ℕ) → g .get .result ≡ Value p → k < p → readingOf (start .args .bytes .now) ≡ refused 3
+  wrong : (p : ℕ) → g .get .result ≡ Value p → k + 1 ≤ p → readingOf (start .args .bytes .now) ≡ refused 3
   wrong p e h =
       parent-wrong _ _ (start .pre) _ _ _ (g .before .before .before .loop .inv) (g .before .before .loop-test .taken) _ (g .before .of-parent .ensures)
-      p (sym (g .get .ensures) ∙ e) h
+      p (sym (g .get .ensures) ∙ e) (omega arith)
 
-  turned : (p : ℕ) → g .get .result ≡ Value p → p ≤ k
+  turned : (p : ℕ) → g .get .result ≡ Value p → p < k + 1
       → Standing (start .args .bytes .now) (start .args .count) (set (g .before .before .before .loop .parents) (k + 1) p) (g .before .before .before .loop .place + g .before .of-parent .result) (k + 1)
   turned p e h =
       parent-read _ _ (start .pre) _ _ _ (g .before .before .before .loop .inv) (g .before .before .loop-test .taken) _ (g .before .of-parent .ensures)
-      p (sym (g .get .ensures) ∙ e) h
+      p (sym (g .get .ensures) ∙ e) (omega arith)
 
 loop-holds : tie.Need-loop-holds Inv-loop μ-loop
 loop-holds c = none-read _ _ (c .before .pre)
@@ -68,17 +68,17 @@ refused-requires c κs = tt
 returns : tie.Need-returns Inv-loop μ-loop
 returns c = c .refused .ensures ∙ sym (cut (c .before .before .before) (c .before .enum-told .given .1))
 
+add-child : tie.Need-add-child Inv-loop μ-loop
+add-child c = omega (arith, start (c .before .before .before) .pre .few, c .before .before .before .before .before .before .loop .inv .left)
+
 refused-requires-2 : tie.Need-refused-requires-2 Inv-loop μ-loop
 refused-requires-2 c κs = tt
 
 returns-2 : tie.Need-returns-2 Inv-loop μ-loop
-returns-2 c = c .refused2 .ensures ∙ sym (wrong (c .before .before .before .before .before) _ (c .before .before .before .parent .given .1) (c .before .if1 .taken))
+returns-2 c = c .refused2 .ensures ∙ sym (wrong (c .before .before .before .before .before) _ (c .before .before .before .parent .given .1) (omega arith))
 
 cast-parents : tie.Need-cast-parents Inv-loop μ-loop
 cast-parents c = omega (arith, start (c .before .before .before .before) .pre .few, c .before .before .before .before .before .before .before .loop .inv .left)
-
-add-parents : tie.Need-add-parents Inv-loop μ-loop
-add-parents c = omega (arith, start (c .before .before .before .before) .pre .few, c .before .before .before .before .before .before .before .loop .inv .left)
 
 array-write-parents : tie.Need-array-write-parents Inv-loop μ-loop
 array-write-parents c = omega (arith, start (c .before .before .before .before) .pre .few, c .before .before .before .before .before .before .before .loop .inv .left)
@@ -86,14 +86,11 @@ array-write-parents c = omega (arith, start (c .before .before .before .before) 
 add-place : tie.Need-add-place Inv-loop μ-loop
 add-place c = omega (arith, close (c .before .before .before .before))
 
-add-k : tie.Need-add-k Inv-loop μ-loop
-add-k c = omega (arith, start (c .before .before .before .before) .pre .few, c .before .before .before .before .before .before .before .loop .inv .left)
-
 loop-less : tie.Need-loop-less Inv-loop μ-loop
 loop-less c = omega arith
 
 loop-again : tie.Need-loop-again Inv-loop μ-loop
-loop-again c = turned (c .before .before .before .before) _ (c .before .before .parent .given .1) (c .if1 .left)
+loop-again c = turned (c .before .before .before .before) _ (c .before .before .parent .given .1) (omega arith)
 
 ends-requires : tie.Need-ends-requires Inv-loop μ-loop
 ends-requires c κs = tt
@@ -104,8 +101,8 @@ refused-requires-3 c κs = tt
 returns-3 : tie.Need-returns-3 Inv-loop μ-loop
 returns-3 c = c .refused3 .ensures ∙ sym (end-wrong _ _ (c .before .before .before .before .before .before .pre) _ _ _ (c .before .before .before .before .loop .inv) (c .before .before .before .loop-test .left) (sym (c .before .before .ends .ensures) ∙ not-true _ (c .before .if2 .taken)))
 
-cast-t17 : tie.Need-cast-t17 Inv-loop μ-loop
-cast-t17 c = omega arith
+cast-t18 : tie.Need-cast-t18 Inv-loop μ-loop
+cast-t18 c = omega arith
 
 returns-4 : tie.Need-returns-4 Inv-loop μ-loop
 returns-4 c = sym (end-right _ _ (c .before .before .before .before .before .pre) _ _ _ (c .before .before .before .loop .inv) (c .before .before .loop-test .left) (sym (c .before .ends .ensures) ∙ not-false _ (c .if2 .left)))
@@ -124,17 +121,16 @@ nodes-spec =
     enum-told
     refused-requires
     returns
+    add-child
     refused-requires-2
     returns-2
     cast-parents
-    add-parents
     array-write-parents
     add-place
-    add-k
     loop-less
     loop-again
     ends-requires
     refused-requires-3
     returns-3
-    cast-t17
+    cast-t18
     returns-4)
