@@ -11,4 +11,3 @@ pub mod Signs
 pub mod Misfits
 pub mod RoundTrip
 pub mod Outcomes
-pub mod Cases

@@ -20,9 +20,9 @@ use Rattle.table.specs.Writing.{tableParts, tableOf, Answered, six, nine
 use Rattle.table.specs.Promises.{Table-exactly, Table-reads-back, Table-writes-back, Written-exactly, Refused-output-kept}
 use Rattle.table.specs.declared.Reading.{Reading}
 use Rattle.table.specs.declared.Written.{Written}
-use Rattle.table.proofs.Verdicts.{judged-exactly, reading-accepted}
+use Rattle.table.proofs.Verdicts.{ruled-exactly, reading-accepted}
 use Rattle.table.proofs.Stores.{table-end}
-use Rattle.table.proofs.Tables.{table-fits, parents-length, accepted-rule, accepted-packs, packed-judged, packed-tree}
+use Rattle.table.proofs.Tables.{table-fits, parents-length, accepted-rule, accepted-packs, packed-ruled, packed-tree}
 
 -- ---- bytes that are read as a tree
 
@@ -33,7 +33,7 @@ record Reads (s : List ℕ) (t : Tree) : Type 0 where
 
 reads : (s : List ℕ) (t : Tree) → readingOf s ≡ accepted t → Reads s t
 reads s t e =
-    let j = judged-exactly s 0 .0 (ap (λ (r : Reading). r .refusal) e) in
+    let j = ruled-exactly s 0 .0 (ap (λ (r : Reading). r .refusal) e) in
     let same : treeOf s ≡ t = ap (λ (r : Reading). r .tree) (sym (reading-accepted s j) ∙ e) in
     let r : Reads s (treeOf s) = record { rule = accepted-rule s j; packs = accepted-packs s j; wide = parents-length s (countAt s - 1) } in
     rw same at r
@@ -46,7 +46,7 @@ table-exactly s t b wide = (
   λ p.
       let r = in-rule-exactly (t .parents) (t .count) .0 (p .0) in
       let h = exactly-packed s (tableParts t) b (table-fits t r) .1 (p .1) in
-      reading-accepted s (packed-judged s t r h) ∙ ap accepted (packed-tree s t r h wide),
+      reading-accepted s (packed-ruled s t r h) ∙ ap accepted (packed-tree s t r h wide),
 )
 
 -- ---- what the writer answers

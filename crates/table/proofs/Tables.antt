@@ -13,7 +13,7 @@ use Rattle.tree.specs.Parents.{parent, InRule}
 use Rattle.tree.specs.declared.Tree.{Tree}
 use Rattle.tree.proofs.Cases.{order, lt-or-le}
 use Rattle.table.specs.Layout.{place, size, countAt, parentAt}
-use Rattle.table.specs.Format.{Counted, RightTo, filling, Judged, no-count, bad-count, no-parent, bad-parent, left-over, whole}
+use Rattle.table.specs.Format.{Counted, RightTo, filling, Ruled, no-count, bad-count, no-parent, bad-parent, left-over, whole}
 use Rattle.table.specs.Reading.{parentsOf, treeOf}
 use Rattle.table.specs.Writing.{nodeParts, tableParts}
 use Rattle.table.proofs.Widths.{width-exactly, place-zero, place-suc, place-up}
@@ -76,7 +76,7 @@ record Accepted (s : List ℕ) (n : ℕ) : Type 0 where
   bytes : length s ≡ size n
   filled : filling s n ≡ 0
 
-accepted-by : (s : List ℕ) (r : ℕ) → Judged s r → r ≡ 0 → Accepted s (countAt s)
+accepted-by : (s : List ℕ) (r : ℕ) → Ruled s r → r ≡ 0 → Accepted s (countAt s)
 accepted-by s r (whole n c f b z) e = let a : Accepted s n = record { counted = c; right = f; bytes = b; filled = z } in rw (c .count) at a
 accepted-by s r (no-count h) e = absurd (omega arith)
 accepted-by s r (bad-count h o) e = absurd (omega arith)
@@ -84,7 +84,7 @@ accepted-by s r (no-parent n k c f l h) e = absurd (omega arith)
 accepted-by s r (bad-parent n k c f l h w) e = absurd (omega arith)
 accepted-by s r (left-over n c f o) e = absurd (omega arith)
 
-module _ (s : List ℕ) (j : Judged s 0) where
+module _ (s : List ℕ) (j : Ruled s 0) where
   a : Accepted s (countAt s)
   a = accepted-by s 0 j refl
 
@@ -119,8 +119,8 @@ module _ (s : List ℕ) (t : Tree) (r : InRule (t .parents) (t .count)) (h : Pac
   held : (k : ℕ) → k + 1 < t .count → parentAt s k ≡ parent (t .parents) (suc k)
   held k l = node-held s (t .parents) 0 (t .count - 1) (rw (← place-zero) at (h .parts .1)) k (omega arith) (omega arith)
 
-  pub packed-judged : Judged s 0
-  packed-judged =
+  pub packed-ruled : Ruled s 0
+  packed-ruled =
       whole (t .count)
       (record { there = omega (arith, bytes, place-up 0 (t .count - 1) (omega arith), place-zero); count = sym (h .parts .0); some = r .some; few = r .few })
       (λ k l. record {

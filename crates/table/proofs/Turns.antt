@@ -16,7 +16,7 @@ use Rattle.table.specs.Layout.{long, place, parentAt}
 use Rattle.table.specs.Format.{Counted, RightTo, no-count, bad-count, no-parent, bad-parent}
 use Rattle.table.specs.Reading.{parentsOf, refused, readingOf}
 use Rattle.table.proofs.Widths.{long-le, place-zero, place-suc, place-le}
-use Rattle.table.proofs.Verdicts.{right-none, right-more, judged-end, reading-refused, reading-accepted}
+use Rattle.table.proofs.Verdicts.{right-none, right-more, ruled-end, reading-refused, reading-accepted}
 
 -- nodes 1 to k are read and right
 pub record Standing (s : List ℕ) (n : ℕ) (ps : List ℕ) (at k : ℕ) : Type 0 where
@@ -78,10 +78,10 @@ module _ (s : List ℕ) (n : ℕ) (c : Counted s n) where
       stops = i .here ∙ ap place last
 
       pub end-wrong : ends s at ≡ false → readingOf s ≡ refused 4
-      end-wrong f = reading-refused s 3 (judged-end s n c false (rw stops at f) all)
+      end-wrong f = reading-refused s 3 (ruled-end s n c false (rw stops at f) all)
 
       pub end-right : ends s at ≡ true → readingOf s ≡ record { refusal = 0; tree = record { count = n; parents = ps } }
-      end-right f = reading-accepted s (judged-end s n c true (rw stops at f) all) ∙ rw (← c .count, ← last, i .list)
+      end-right f = reading-accepted s (ruled-end s n c true (rw stops at f) all) ∙ rw (← c .count, ← last, i .list)
 
 -- ---- the count
 

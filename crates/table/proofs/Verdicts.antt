@@ -13,10 +13,10 @@ use Rattle.packed.specs.Parts.{ends}
 use Rattle.packed.proofs.Filling.{ends-exactly, left-over-exactly}
 use Rattle.tree.proofs.Cases.{order, lt-or-le}
 use Rattle.table.specs.Layout.{place, countAt, parentAt}
-use Rattle.table.specs.Format.{Counted, Right, RightTo, Judged, no-count, bad-count, no-parent, bad-parent, left-over, whole}
+use Rattle.table.specs.Format.{Counted, Right, RightTo, Ruled, no-count, bad-count, no-parent, bad-parent, left-over, whole}
 use Rattle.tree.specs.declared.Tree.{Tree}
 use Rattle.table.specs.Reading.{first, nodeFault, nodesFault, refusalOf, treeOf, accepted, refused, answer, readingOf}
-use Rattle.table.specs.Promises.{Judged-exactly, Refused-with-zeros}
+use Rattle.table.specs.Promises.{Ruled-exactly, Refused-with-zeros}
 use Rattle.table.proofs.Widths.{place-zero, place-le}
 
 -- ---- nodes 1 to k
@@ -67,41 +67,41 @@ module _ (s : List ℕ) (n : ℕ) (c : Counted s n) where
         there zero g = omega (arith, place-zero, c .there)
         there (suc m) g = g m (omega arith) .there
 
-pub judged-once : (s : List ℕ) (r : ℕ) → Judged s r → refusalOf s ≡ r
-judged-once s r (no-count h) = unfold refusalOf in rw (lt-leb 9 (8 * length s) h)
-judged-once s r (bad-count h (inl e)) = unfold refusalOf in rw (le-leb 9 (8 * length s) h, e)
-judged-once s r (bad-count h (inr l)) = unfold refusalOf in rw (le-leb 9 (8 * length s) h, le-leb 1 (countAt s) (omega arith), lt-leb (countAt s) 256 l)
-judged-once s r (no-parent n k c f l h) = fault s n c k 0 f l (rw (lt-leb (place (suc k)) (8 * length s) h))
-judged-once s r (bad-parent n k c f l h w) = fault s n c k 2 f l (rw (le-leb (place (suc k)) (8 * length s) h, lt-leb (parentAt s k) k w))
-judged-once s r (left-over n c f o) = all-right s n c f ∙ ap (λ (b : Bool). cond b 0 4) (left-over-exactly s (place (n - 1)) (fields-lie s n c f) .1 o)
-judged-once s r (whole n c f b z) = all-right s n c f ∙ ap (λ (b : Bool). cond b 0 4) (ends-exactly s (place (n - 1)) .1 (fields-lie s n c f, b, z))
+pub ruled-once : (s : List ℕ) (r : ℕ) → Ruled s r → refusalOf s ≡ r
+ruled-once s r (no-count h) = unfold refusalOf in rw (lt-leb 9 (8 * length s) h)
+ruled-once s r (bad-count h (inl e)) = unfold refusalOf in rw (le-leb 9 (8 * length s) h, e)
+ruled-once s r (bad-count h (inr l)) = unfold refusalOf in rw (le-leb 9 (8 * length s) h, le-leb 1 (countAt s) (omega arith), lt-leb (countAt s) 256 l)
+ruled-once s r (no-parent n k c f l h) = fault s n c k 0 f l (rw (lt-leb (place (suc k)) (8 * length s) h))
+ruled-once s r (bad-parent n k c f l h w) = fault s n c k 2 f l (rw (le-leb (place (suc k)) (8 * length s) h, lt-leb (parentAt s k) k w))
+ruled-once s r (left-over n c f o) = all-right s n c f ∙ ap (λ (b : Bool). cond b 0 4) (left-over-exactly s (place (n - 1)) (fields-lie s n c f) .1 o)
+ruled-once s r (whole n c f b z) = all-right s n c f ∙ ap (λ (b : Bool). cond b 0 4) (ends-exactly s (place (n - 1)) .1 (fields-lie s n c f, b, z))
 
 -- ---- every byte list is judged
 
 module _ (s : List ℕ) (n : ℕ) (c : Counted s n) where
-  pub judged-end : (b : Bool) → ends s (place (n - 1)) ≡ b → RightTo s (n - 1) → Judged s (cond b 0 4)
-  judged-end true e f = let h = ends-exactly s (place (n - 1)) .0 e in whole n c f (h .1) (h .2)
-  judged-end false e f = left-over n c f (left-over-exactly s (place (n - 1)) (fields-lie s n c f) .0 e)
+  pub ruled-end : (b : Bool) → ends s (place (n - 1)) ≡ b → RightTo s (n - 1) → Ruled s (cond b 0 4)
+  ruled-end true e f = let h = ends-exactly s (place (n - 1)) .0 e in whole n c f (h .1) (h .2)
+  ruled-end false e f = left-over n c f (left-over-exactly s (place (n - 1)) (fields-lie s n c f) .0 e)
 
-  judged-nodes : (m k : ℕ) → k + m ≡ n - 1 → RightTo s k → (r : ℕ) × Judged s r
-  judged-nodes zero k e f = let q : k ≡ n - 1 = omega arith in (cond (ends s (place (n - 1))) 0 4, judged-end (ends s (place (n - 1))) refl (rw q at f))
-  judged-nodes (suc m) k e f = lt-or-le (8 * length s) (place (suc k))
+  ruled-nodes : (m k : ℕ) → k + m ≡ n - 1 → RightTo s k → (r : ℕ) × Ruled s r
+  ruled-nodes zero k e f = let q : k ≡ n - 1 = omega arith in (cond (ends s (place (n - 1))) 0 4, ruled-end (ends s (place (n - 1))) refl (rw q at f))
+  ruled-nodes (suc m) k e f = lt-or-le (8 * length s) (place (suc k))
       (λ h. (1, no-parent n k c f (omega arith) h))
       (λ h. lt-or-le k (parentAt s k)
       (λ w. (3, bad-parent n k c f (omega arith) h w))
-      (λ w. judged-nodes m (suc k) (omega arith) (right-more s k f (record { there = h; smaller = omega arith }))))
+      (λ w. ruled-nodes m (suc k) (omega arith) (right-more s k f (record { there = h; smaller = omega arith }))))
 
-judged : (s : List ℕ) → (r : ℕ) × Judged s r
-judged s = lt-or-le (8 * length s) 9
+ruled : (s : List ℕ) → (r : ℕ) × Ruled s r
+ruled s = lt-or-le (8 * length s) 9
     (λ h. (1, no-count h))
     (λ h. lt-or-le (countAt s) 1
     (λ l. (2, bad-count h (inl (omega arith))))
     (λ l. lt-or-le 256 (countAt s)
     (λ m. (2, bad-count h (inr m)))
-    (λ m. judged-nodes s (countAt s) (record { there = h; count = refl; some = l; few = m }) (countAt s - 1) 0 (omega arith) (right-none s))))
+    (λ m. ruled-nodes s (countAt s) (record { there = h; count = refl; some = l; few = m }) (countAt s - 1) 0 (omega arith) (right-none s))))
 
-pub is-judged : (s : List ℕ) (r : ℕ) → refusalOf s ≡ r → Judged s r
-is-judged s r e = let j = judged s in subst (Judged s) (sym (judged-once s (j .0) (j .1)) ∙ e) (j .1)
+pub is-ruled : (s : List ℕ) (r : ℕ) → refusalOf s ≡ r → Ruled s r
+is-ruled s r e = let j = ruled s in subst (Ruled s) (sym (ruled-once s (j .0) (j .1)) ∙ e) (j .1)
 
 -- ---- the answer
 
@@ -113,20 +113,20 @@ pub reading-refusal : (s : List ℕ) → readingOf s .refusal ≡ refusalOf s
 unfolding readingOf
 reading-refusal s = answer-refusal (refusalOf s) (treeOf s)
 
-pub judged-exactly : Judged-exactly
-judged-exactly s r = (λ e. is-judged s r (sym (reading-refusal s) ∙ e), λ j. reading-refusal s ∙ judged-once s r j)
+pub ruled-exactly : Ruled-exactly
+ruled-exactly s r = (λ e. is-ruled s r (sym (reading-refusal s) ∙ e), λ j. reading-refusal s ∙ ruled-once s r j)
 
-pub reading-refused : (s : List ℕ) (r : ℕ) → Judged s (suc r) → readingOf s ≡ refused (suc r)
+pub reading-refused : (s : List ℕ) (r : ℕ) → Ruled s (suc r) → readingOf s ≡ refused (suc r)
 unfolding readingOf
-reading-refused s r j = rw (judged-once s (suc r) j)
+reading-refused s r j = rw (ruled-once s (suc r) j)
 
 pub refused-with-zeros : Refused-with-zeros
 refused-with-zeros s h = go (readingOf s .refusal) refl h
   where
     go : (r : ℕ) → readingOf s .refusal ≡ r → 0 < r → readingOf s ≡ refused r
     go zero e l = absurd (not-suc-le-zero l)
-    go (suc r) e l = reading-refused s r (judged-exactly s (suc r) .0 e)
+    go (suc r) e l = reading-refused s r (ruled-exactly s (suc r) .0 e)
 
-pub reading-accepted : (s : List ℕ) → Judged s 0 → readingOf s ≡ accepted (treeOf s)
+pub reading-accepted : (s : List ℕ) → Ruled s 0 → readingOf s ≡ accepted (treeOf s)
 unfolding readingOf
-reading-accepted s j = rw (judged-once s 0 j)
+reading-accepted s j = rw (ruled-once s 0 j)

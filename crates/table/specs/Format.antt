@@ -29,15 +29,15 @@ abbrev pub filling : List ℕ → ℕ → ℕ
 filling s n = field s (place (n - 1)) (left (place (n - 1)))
 
 -- The fields are judged in their order, the first fault decides, and 4 comes last. 0 is no refusal.
-pub data Judged (s : List ℕ) : ℕ → Type 0 where
+pub data Ruled (s : List ℕ) : ℕ → Type 0 where
   -- the table ends before its count
-  no-count : 8 * length s < 9 → Judged s 1
+  no-count : 8 * length s < 9 → Ruled s 1
   -- the count is 0 or above 256
-  bad-count : 9 ≤ 8 * length s → (countAt s ≡ 0) ⊎ (256 < countAt s) → Judged s 2
+  bad-count : 9 ≤ 8 * length s → (countAt s ≡ 0) ⊎ (256 < countAt s) → Ruled s 2
   -- the table ends before the parent of node k + 1
-  no-parent : (n k : ℕ) → Counted s n → RightTo s k → k + 1 < n → 8 * length s < place (suc k) → Judged s 1
+  no-parent : (n k : ℕ) → Counted s n → RightTo s k → k + 1 < n → 8 * length s < place (suc k) → Ruled s 1
   -- the parent of node k + 1 is not smaller than the node
-  bad-parent : (n k : ℕ) → Counted s n → RightTo s k → k + 1 < n → place (suc k) ≤ 8 * length s → suc k ≤ parentAt s k → Judged s 3
+  bad-parent : (n k : ℕ) → Counted s n → RightTo s k → k + 1 < n → place (suc k) ≤ 8 * length s → suc k ≤ parentAt s k → Ruled s 3
   -- bytes are left over, or a filling bit is set
-  left-over : (n : ℕ) → Counted s n → RightTo s (n - 1) → (size n < length s) ⊎ (0 < filling s n) → Judged s 4
-  whole : (n : ℕ) → Counted s n → RightTo s (n - 1) → length s ≡ size n → filling s n ≡ 0 → Judged s 0
+  left-over : (n : ℕ) → Counted s n → RightTo s (n - 1) → (size n < length s) ⊎ (0 < filling s n) → Ruled s 4
+  whole : (n : ℕ) → Counted s n → RightTo s (n - 1) → length s ≡ size n → filling s n ≡ 0 → Ruled s 0

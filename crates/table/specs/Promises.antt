@@ -9,7 +9,7 @@ use Rattle.fields.specs.Bits.{Bytes}
 use Rattle.tree.specs.Parents.{inRule}
 use Rattle.tree.specs.declared.Tree.{Tree}
 use Rattle.table.specs.Layout.{long}
-use Rattle.table.specs.Format.{Judged}
+use Rattle.table.specs.Format.{Ruled}
 use Rattle.table.specs.Reading.{accepted, refused, readingOf}
 use Rattle.table.specs.Writing.{tableOf, Answered, writtenOf, outputOf}
 use Rattle.table.specs.declared.Written.{Written}
@@ -19,8 +19,8 @@ abbrev pub Width-exactly : Type 0
 Width-exactly = (k : ℕ) → k < 2 ^ 64 → (k < 2 ^ long k) × (2 ^ long k ≤ 2 * k + 1)
 
 -- The reader refuses exactly as the format says,
-abbrev pub Judged-exactly : Type 0
-Judged-exactly = (s : List ℕ) (r : ℕ) → (readingOf s .refusal ≡ r) ↔ Judged s r
+abbrev pub Ruled-exactly : Type 0
+Ruled-exactly = (s : List ℕ) (r : ℕ) → (readingOf s .refusal ≡ r) ↔ Ruled s r
 
 -- and answers zeros where it refuses.
 abbrev pub Refused-with-zeros : Type 0

@@ -1,0 +1,2 @@
+-- The proof of the cases marked P.
+pub mod Proved

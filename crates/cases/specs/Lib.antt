@@ -1,0 +1,2 @@
+-- Document 01's cases that are proved.
+pub mod Proved

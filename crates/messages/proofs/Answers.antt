@@ -1,0 +1,100 @@
+-- What writing a message answers, and exactly where.
+use mathlib.Core.Path.{_≡_, refl, sym, ap, _∙_}
+use mathlib.Core.Bool.{Bool, true, false, and-false}
+use mathlib.Core.List.{List}
+use mathlib.Core.Logic.{⊎-elim}
+use Prim.Native.Nat.{ℕ, _+_, _-_, _^_, _≤_, _<_}
+use native.Mathlib.Nat.{suc-ne-zero}
+use native.Mathlib.Decide.{decLe}
+use native.Mathlib.Omega.{arith}
+use lib.Dec.{leb}
+use lib.ListN.{length}
+use borrow.Author.Tests.{le-leb, lt-leb}
+use Rattle.fields.specs.Fields.{putField}
+use Rattle.fields.specs.Usable.{usableBits, putAt}
+use Rattle.fields.proofs.Rooms.{taken-is-put}
+use Rattle.messages.specs.Records.{kindOf, fits, bitsOf, recordOf}
+use Rattle.messages.specs.Writing.{room, writtenOf, logAfter, toldWritten}
+use Rattle.messages.specs.Promises.{Written-exactly, Full-exactly, Misfit-exactly, Refused-log-kept}
+use Rattle.messages.specs.declared.Message.{Message}
+use Rattle.messages.specs.declared.Written.{Written}
+use Rattle.messages.specs.declared.Written.the-variants.{Next, Full, Misfit}
+use Rattle.messages.proofs.Widths.{width-bounds}
+
+-- the test for room by what is left from place on
+pub by-rest : (place width end : ℕ) → place ≤ end → leb width (end - place) ≡ leb (place + width) end
+by-rest place width end h = go (decLe width (end - place))
+  where
+    go : Dec (width ≤ end - place) → leb width (end - place) ≡ leb (place + width) end
+    go (yes l) = le-leb width (end - place) l ∙ sym (le-leb (place + width) end (omega arith))
+    go (no l) = lt-leb width (end - place) (omega arith) ∙ sym (lt-leb (place + width) end (omega arith))
+
+module _ (n place : ℕ) (m : Message) where
+  pub answer-next : place + bitsOf m ≤ usableBits n → fits m ≡ true → writtenOf n place m ≡ Next (place + bitsOf m)
+  unfolding writtenOf
+  answer-next h f = rw (le-leb (place + bitsOf m) (usableBits n) h, f)
+
+  pub answer-misfit : place + bitsOf m ≤ usableBits n → fits m ≡ false → writtenOf n place m ≡ Misfit
+  unfolding writtenOf
+  answer-misfit h f = rw (le-leb (place + bitsOf m) (usableBits n) h, f)
+
+  pub answer-full : usableBits n < place + bitsOf m → writtenOf n place m ≡ Full
+  unfolding writtenOf
+  answer-full h = rw (lt-leb (place + bitsOf m) (usableBits n) h)
+
+  -- there are no other cases
+  by-case : (P : Written → Type 0)
+      → (place + bitsOf m ≤ usableBits n → fits m ≡ true → P (Next (place + bitsOf m)))
+      → (place + bitsOf m ≤ usableBits n → fits m ≡ false → P Misfit)
+      → (usableBits n < place + bitsOf m → P Full)
+      → P (writtenOf n place m)
+  by-case P next misfit full = go (decLe (place + bitsOf m) (usableBits n)) (fits m) refl
+    where
+      go : Dec (place + bitsOf m ≤ usableBits n) → (b : Bool) → fits m ≡ b → P (writtenOf n place m)
+      go (yes h) true f = rw (answer-next h f) (next h f)
+      go (yes h) false f = rw (answer-misfit h f) (misfit h f)
+      go (no h) b f = let l : usableBits n < place + bitsOf m = omega arith in rw (answer-full l) (full l)
+
+pub log-written : (s : List ℕ) (place : ℕ) (m : Message) → place + bitsOf m ≤ usableBits (length s) → fits m ≡ true → logAfter s place m ≡ putField s place (bitsOf m) (recordOf m)
+unfolding logAfter
+log-written s place m h f = rw (le-leb (place + bitsOf m) (usableBits (length s)) h, f)
+
+-- a record that is put as a field of the usable log is written
+pub log-put : (s : List ℕ) (place : ℕ) (m : Message) → place + bitsOf m ≤ usableBits (length s) → fits m ≡ true → recordOf m < 2 ^ bitsOf m → putAt s place (bitsOf m) (recordOf m) ≡ logAfter s place m
+log-put s place m h f l = taken-is-put s place (bitsOf m) (recordOf m) (omega (arith, width-bounds (kindOf m))) h l ∙ sym (log-written s place m h f)
+
+pub refused-log-kept : Refused-log-kept
+unfolding logAfter
+refused-log-kept s place m =
+    ⊎-elim (λ (h : usableBits (length s) < place + bitsOf m). rw (lt-leb (place + bitsOf m) (usableBits (length s)) h)) (λ (f : fits m ≡ false). rw (f, and-false (room (length s) place m)))
+
+-- the number that is told
+abbrev code : ℕ × ℕ → ℕ
+code t = t .0
+
+pub written-exactly : Written-exactly
+written-exactly n place next m = (
+  by-case n place m (λ x. toldWritten x ≡ (0, next) → (place + bitsOf m ≤ usableBits n) × (fits m ≡ true) × (next ≡ place + bitsOf m))
+      (λ h f e. (h, f, sym (ap (λ (t : ℕ × ℕ). t .1) e)))
+      (λ h f e. absurd (suc-ne-zero 10 (ap code e)))
+      (λ h e. absurd (suc-ne-zero 8 (ap code e))),
+  λ (h, f, e). ap toldWritten (answer-next n place m h f) ∙ ap (λ (p : ℕ). (0, p)) (sym e),
+)
+
+pub full-exactly : Full-exactly
+full-exactly n place m = (
+  by-case n place m (λ x. toldWritten x ≡ (9, 0) → usableBits n < place + bitsOf m)
+      (λ h f e. absurd (suc-ne-zero 8 (sym (ap code e))))
+      (λ h f e. let y : 11 ≡ 9 = ap code e in omega arith)
+      (λ h e. h),
+  λ h. ap toldWritten (answer-full n place m h),
+)
+
+pub misfit-exactly : Misfit-exactly
+misfit-exactly n place m = (
+  by-case n place m (λ x. toldWritten x ≡ (11, 0) → (place + bitsOf m ≤ usableBits n) × (fits m ≡ false))
+      (λ h f e. absurd (suc-ne-zero 10 (sym (ap code e))))
+      (λ h f e. (h, f))
+      (λ h e. let y : 9 ≡ 11 = ap code e in absurd (omega arith)),
+  λ (h, f). ap toldWritten (answer-misfit n place m h f),
+)

@@ -1,0 +1,10 @@
+-- The laws, from a record's width up to what a caller of the public functions cites.
+pub mod Parts
+pub mod Widths
+pub mod ByKind
+pub mod Stands
+pub mod Entries
+pub mod Answers
+pub mod Logs
+pub mod Counts
+pub mod Outcomes

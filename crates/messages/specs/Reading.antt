@@ -1,0 +1,65 @@
+-- What the log's reader finds at a place, before an end.
+use mathlib.Core.Path.{_≡_}
+use mathlib.Core.Bool.{Bool, true, false, cond}
+use mathlib.Core.List.{List, [], _∷_}
+use Prim.Native.Nat.{ℕ, zero, suc, _+_}
+use lib.Dec.{eqb, leb}
+use lib.IntN.{ℤ}
+use lib.ListN.{length}
+use Rattle.fields.specs.Fields.{field}
+use Rattle.fields.specs.Twos.{signed}
+use Rattle.fields.specs.Usable.{usableBits}
+use Rattle.messages.specs.Records.{widthOf}
+use Rattle.messages.specs.declared.Message.{Message}
+use Rattle.messages.specs.declared.Message.the-variants.{Probe, Response, Update, Release}
+use Rattle.messages.specs.declared.Entry.{Entry}
+use Rattle.messages.specs.declared.Entry.the-variants.{Read, End, Short}
+
+-- the message of a kind, from a to b, with value z
+unfoldable pub messageOf : ℕ → ℕ → ℕ → ℤ → Message
+messageOf kind a b z = cond (eqb kind 0) (Probe a b) (cond (eqb kind 1) (Response a b z) (cond (eqb kind 2) (Update a b z) (Release a b)))
+
+-- the message of a kind whose record starts at place: kind in 2 bits, sender in 8, receiver in 8, value in 40
+unfoldable pub messageAt : List ℕ → ℕ → ℕ → Message
+messageAt s place kind = messageOf kind (field s (place + 2) 8) (field s (place + 10) 8) (signed 40 (field s (place + 18) 40))
+
+-- a message of the kind, if all of its record lies before the end
+unfoldable pub entryOf : List ℕ → ℕ → ℕ → ℕ → Entry
+entryOf s place end kind = cond (leb (place + widthOf kind) end) (Read (messageAt s place kind) (place + widthOf kind)) Short
+
+-- The end has to be inside the usable log. Past the end of the log every bit reads 0, and any record has at least 18 bits, so a kind that is cut off is short too.
+unfoldable pub entryAt : List ℕ → ℕ → ℕ → Entry
+entryAt s place end = cond (leb end (usableBits (length s))) (cond (eqb place end) End (entryOf s place end (field s place 2))) Short
+
+-- document 01's number, and the message with the next place if there is one: none at the end, 1 and none where refused
+abbrev pub told : Entry → ℕ × List (Message × ℕ)
+told (Read m next) = (0, (m, next) ∷ [])
+told End = (0, [])
+told Short = (1, [])
+
+-- from place on the reader finds these messages one behind the other, and then the end
+abbrev pub Reads : List ℕ → ℕ → ℕ → List Message → Type 0
+Reads s place end [] = entryAt s place end ≡ End
+Reads s place end (m ∷ ms) = (next : ℕ) × (entryAt s place end ≡ Read m next) × Reads s next end ms
+
+-- the place after what was found: past a message, else where it was
+abbrev pub placeAfter : Entry → ℕ → ℕ
+placeAfter (Read m next) place = next
+placeAfter End place = place
+placeAfter Short place = place
+
+abbrev pub isMessage : Entry → Bool
+isMessage (Read m next) = true
+isMessage End = false
+isMessage Short = false
+
+-- one more than what follows a message; nothing else counts
+abbrev pub counted : Entry → (ℕ → ℕ) → ℕ
+counted (Read m next) rest = suc (rest next)
+counted End rest = 0
+counted Short rest = 0
+
+-- how many messages stand one behind the other from place on, at most k
+unfoldable pub countFrom : ℕ → List ℕ → ℕ → ℕ → ℕ
+countFrom zero s place end = 0
+countFrom (suc k) s place end = counted (entryAt s place end) (λ next. countFrom k s next end)

@@ -1,0 +1,82 @@
+// Messages between neighbours, and the log in which each is a record of bits.
+//
+// Every public function is total: it takes whatever it is handed and has one outcome. Only the first
+// 65,536 bytes of a log, or all of a shorter one, are ever used: the usable log.
+mod reader; // the log's reader that carries the log and its place along
+mod record; // a message as a record of bits
+
+pub use reader::LogReader;
+pub use reader::count;
+ghost use mathlib.Core.Path.{_≡_};
+ghost use lib.ListN.{length};
+ghost use Rattle.messages.specs.Writing.{writtenOf, logAfter};
+ghost use Rattle.messages.specs.Reading.{entryAt};
+
+// What one node sends a neighbour: the sender, the receiver, and for a response and an update the
+// value.
+pub enum Message {
+    Probe(u8, u8),
+    Response(u8, u8, i64),
+    Update(u8, u8, i64),
+    Release(u8, u8),
+}
+
+// What writing a message answers.
+pub enum Written {
+    // the place after its record
+    Next(usize),
+    // the usable log ends before the record does
+    Full,
+    // the value does not fit the record's 40 bits
+    Misfit,
+}
+
+// What reading finds at a place.
+pub enum Entry {
+    // a message, and the place after its record
+    Read(Message, usize),
+    // the place is the end
+    End,
+    // fewer bits are left before the end than the record has, the place is past the end, or the end
+    // is past the usable log
+    Short,
+}
+
+// Writes the message's record from place on. Where it is refused, nothing is changed.
+pub fn write(log: &mut [u8], place: usize, message: Message) -> Written
+    ensures { λ r. ⌜ (r ≡ writtenOf (length (now (log .entry))) place message) × (now (log .exit) ≡ logAfter (now (log .entry)) place message) ⌝ }
+{
+    let width = record::width(message);
+    if record::lies(log.len(), place, width) {
+        if record::holds(message) {
+            fields::put(log, place, width, record::number(message));
+            return Written::Next(place + width);
+        }
+        return Written::Misfit;
+    }
+    Written::Full
+}
+
+// What stands at place, before end.
+pub fn read(log: &[u8], place: usize, end: usize) -> Entry
+    ensures { λ r. ⌜ r ≡ entryAt (now (log .entry)) place end ⌝ }
+{
+    if fields::usable_bits(log.len()) < end {
+        return Entry::Short;
+    }
+    if place == end {
+        return Entry::End;
+    }
+    if end < place {
+        return Entry::Short;
+    }
+    if end - place < 2 {
+        return Entry::Short;
+    }
+    let kind = record::part(log, place, 2);
+    let width = record::width_of(kind);
+    if end - place < width {
+        return Entry::Short;
+    }
+    Entry::Read(record::message(log, place, kind), place + width)
+}

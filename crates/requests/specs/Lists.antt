@@ -1,0 +1,44 @@
+-- A list of requests as data, and as bytes: each request is one field of 9 or 41 bits.
+use mathlib.Core.Path.{_≡_}
+use mathlib.Core.Bool.{true}
+use mathlib.Core.List.{List, [], _∷_}
+use Prim.Native.Nat.{ℕ, _+_, _*_, _^_, _<_}
+use lib.ListN.{length}
+use Rattle.fields.specs.Twos.{twos, within}
+use Rattle.packed.specs.Parts.{Part, packed}
+use Rattle.requests.specs.declared.Request.{Request}
+use Rattle.requests.specs.declared.Request.the-variants.{Combine, Write}
+
+-- the node is a byte, and the value fits 32 bits
+abbrev pub Sized : Request → Type 0
+Sized (Combine node) = node < 256
+Sized (Write node value) = (node < 256) × (within 32 value ≡ true)
+
+abbrev pub AllSized : List Request → Type 0
+AllSized [] = Unit
+AllSized (r ∷ rs) = Sized r × AllSized rs
+
+-- 1 bit (0 combine, 1 write), the node in 8, and for a write the value in 32, two's complement
+abbrev pub partOf : Request → Part
+partOf (Combine node) = record { width = 9; number = node }
+partOf (Write node value) = record { width = 41; number = (2 ^ 8 + node) * 2 ^ 32 + twos 32 value }
+
+abbrev pub partsOf : List Request → List Part
+partsOf [] = []
+partsOf (r ∷ rs) = partOf r ∷ partsOf rs
+
+-- the count in 13 bits, then each request
+abbrev pub listParts : List Request → List Part
+listParts rs = record { width = 13; number = length rs } ∷ partsOf rs
+
+abbrev pub listOf : List Request → List ℕ
+listOf rs = packed (listParts rs)
+
+-- how many requests are combines
+abbrev pub oneIfCombine : Request → ℕ
+oneIfCombine (Combine node) = 1
+oneIfCombine (Write node value) = 0
+
+unfoldable pub combinesIn : List Request → ℕ
+combinesIn [] = 0
+combinesIn (r ∷ rs) = oneIfCombine r + combinesIn rs

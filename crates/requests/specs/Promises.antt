@@ -1,0 +1,44 @@
+-- What is promised of lists. The theorem that proves a statement bears its name in small letters.
+use mathlib.Core.Path.{_≡_}
+use mathlib.Core.List.{List, [], _∷_}
+use mathlib.Core.Logic.{_↔_}
+use Prim.Native.Nat.{ℕ, _≤_, _<_}
+use lib.ListN.{length}
+use Rattle.fields.specs.Bits.{Bytes}
+use Rattle.fields.specs.Usable.{usableBits}
+use Rattle.requests.specs.Lists.{AllSized, listOf, combinesIn}
+use Rattle.requests.specs.Format.{Ruled}
+use Rattle.requests.specs.Reading.{requestAt, after, itemAt, told, Hands, requestsOf, refused, judgedOf}
+use Rattle.requests.specs.declared.Request.{Request}
+
+-- The reader refuses a list exactly as the format says,
+abbrev pub Ruled-exactly : Type 0
+Ruled-exactly = (s : List ℕ) (r : ℕ) → (judgedOf s .refusal ≡ r) ↔ Ruled s r
+
+-- and answers zeros where it refuses.
+abbrev pub Refused-with-zeros : Type 0
+Refused-with-zeros = (s : List ℕ) → 0 < judgedOf s .refusal → judgedOf s ≡ refused (judgedOf s .refusal)
+
+-- Of an accepted list it tells how many requests there are, and how many of them are combines.
+abbrev pub Counts-right : Type 0
+Counts-right = (s : List ℕ) → judgedOf s .refusal ≡ 0 → (judgedOf s .requests ≡ length (requestsOf s)) × (judgedOf s .combines ≡ combinesIn (requestsOf s))
+
+-- Bytes are accepted as these requests exactly where they are the bytes of their list.
+abbrev pub List-exactly : Type 0
+List-exactly = (s : List ℕ) (rs : List Request) → Bytes s → AllSized rs → length rs ≤ 4096 → ((judgedOf s .refusal ≡ 0) × (requestsOf s ≡ rs)) ↔ (s ≡ listOf rs)
+
+-- What is read has a byte for a node and 32 bits for a value.
+abbrev pub Read-sized : Type 0
+Read-sized = (s : List ℕ) → AllSized (requestsOf s)
+
+-- A request is found at a place exactly where all of it lies in the usable bytes,
+abbrev pub Item-exactly : Type 0
+Item-exactly = (s : List ℕ) (place next : ℕ) (r : Request) → (told (itemAt s place) ≡ (0, (r, next) ∷ [])) ↔ ((after s place ≤ usableBits (length s)) × (r ≡ requestAt s place) × (next ≡ after s place))
+
+-- and 1 is answered exactly everywhere else.
+abbrev pub Short-exactly : Type 0
+Short-exactly = (s : List ℕ) (place : ℕ) → (told (itemAt s place) ≡ (1, [])) ↔ (usableBits (length s) < after s place)
+
+-- The requests of an accepted list are handed out one behind the other, from its first place on.
+abbrev pub Handed-out : Type 0
+Handed-out = (s : List ℕ) → judgedOf s .refusal ≡ 0 → Hands s (judgedOf s .first) (requestsOf s)
