@@ -45,8 +45,8 @@ def decode32(number, width):
     return value if value is not None and -(1 << 31) <= value < 1 << 31 else None
 
 
-def line(text, *words):
-    print(text + ":" + "".join(" " + str(word) for word in words))
+def line(text, *words, end="\n"):
+    print(text + ":" + "".join(" " + str(word) for word in words), end=end)
 
 
 def or_else(answer, word):
@@ -70,15 +70,6 @@ def puts(data, writes):
     return data, words
 
 
-def record(length, fields):
-    data, place = bytes(length), 0
-    for width, value in fields:
-        data, room = put(data, place, width, value)
-        assert room
-        place += width
-    return data
-
-
 def mixed(total, number):
     return (total % 2**32 * 31 + number % 2**32) % 2**32
 
@@ -94,12 +85,6 @@ def copied(width, place):
 
 
 def bits():
-    line("probe from 0 to 1", record(3, [(2, 0), (8, 0), (8, 1)]).hex(" "))
-    response = record(8, [(2, 1), (8, 1), (8, 0), (40, encode(-1, 40))])
-    line("response from 1 to 0 with -1", response.hex(" "))
-    places = [(0, 2), (2, 8), (10, 8)]
-    line("kind, sender, receiver, value", *(found(response, *p) for p in places), decode(get(response, 18, 40), 40))
-
     two, words = puts(bytes([255, 255]), [(3, 5, 0)])
     line("5 bits of 0 at 3", *words, two.hex(" "))
     two, words = puts(two, [(8, 9, 0), (0, 65, 0), (LAST_PLACE, 1, 0), (3, 5, 32)])
@@ -295,8 +280,9 @@ class Log:
         return bytes(int(self.text[i : i + 8], 2) for i in range(0, len(self.text), 8)).hex(" ")
 
 
-def entry(log, place, end):
-    return "\n  " + log.read(place, end)[0]
+def entries(log, places, *words):
+    """What is read from each place to each end, a line each, and words behind the last."""
+    print("".join("\n  " + log.read(place, end)[0] for place, end in places), *words)
 
 
 def logs():
@@ -306,7 +292,8 @@ def logs():
         places.append(log.write(places[-1], *message))
     end = places[-1]
     line("log" + "".join(f" {place}" for place in places[1:]), log.hex())
-    print("read back:" + "".join(entry(log, place, end) for place in places), log.count(3, end))
+    line("read back", end="")
+    entries(log, [(place, end) for place in places], log.count(3, end))
 
     log = Log(bytes([255]) * 3)
     words = [log.write(7, "probe", 0, 0), log.write(0, "response", 0, 0, 0), log.write(LAST_PLACE, "release", 0, 0)]
@@ -314,16 +301,20 @@ def logs():
     line("refused", *words, log.hex())
     line("at the end", log.write(6, "probe", 0, 0), log.hex())
 
-    log, none = Log(bytes(65537)), Log(b"")
-    words = [log.write(524270, "release", 7, 8), log.write(524271, "release", 7, 8)]
-    words += [log.write(0, "update", 0, 0, 2**39), log.write(0, "response", 0, 0, -(2**39) - 1)]
-    found = "".join(entry(log, *places) for places in ((524270, 524288), (524270, 524289), (524288, 524288)))
-    last = entry(none, 0, 0) + entry(none, 0, 1)
-    print("of 65537 bytes, of none:", *words, end=f"{found} {none.write(0, 'probe', 0, 0)}{last}\n")
+    log = Log(bytes(65537))
+    line("of 65537 bytes", log.write(524270, "release", 7, 8), log.write(524271, "release", 7, 8), end="")
+    entries(log, [(524270, 524288), (524270, 524289), (524288, 524288)])
+    log = Log(bytes(8))
+    line("misfits", log.write(0, "update", 0, 0, 2**39), log.write(0, "response", 0, 0, -(2**39) - 1), log.hex())
+    log = Log(b"")
+    line("of no bytes", log.write(0, "probe", 0, 0), end="")
+    entries(log, [(0, 0), (0, 1)])
 
     log = Log(bytes.fromhex("40403fffffffffc0"))
-    places = [(0, 58), (0, 57), (0, 1), (59, 58), (65, 65), (LAST_PLACE, 64), (LAST_PLACE, LAST_PLACE)]
-    print("a response, cut, past its end, past the log, at the last places:" + "".join(entry(log, *p) for p in places))
+    line("a response, cut by a bit, cut in its kind", end="")
+    entries(log, [(0, 58), (0, 57), (0, 1)])
+    line("past its end, past the log, at the last places", end="")
+    entries(log, [(59, 58), (65, 65), (LAST_PLACE, 64), (LAST_PLACE, LAST_PLACE)])
     line("messages in it", log.count(0, 58), log.count(0, 57), log.count(0, 64))
 
 

@@ -7,7 +7,9 @@ use requests::Request;
 
 pub fn run() {
     small();
-    refused();
+    too_short();
+    cut();
+    left_over();
     longest();
     too_long();
     handed_out();
@@ -21,21 +23,27 @@ fn small() {
     list(&count_alone);
 }
 
-// A byte, no bytes, one request that is cut in its node and one in its value, a filling bit, a byte
-// left over.
-fn refused() {
+fn too_short() {
     let none = [0u8; 0];
     let one = [0x00u8];
-    let no_node = [0x00u8, 0x08];
-    let no_value = [0x00u8, 0x0C, 0x08, 0x00, 0x00, 0x00];
-    let filling = [0x00u8, 0x08, 0x01];
-    let left_over = [0x00u8, 0x00, 0x00];
     list(&none);
     list(&one);
+}
+
+// A request that is cut in its node, and one in its value.
+fn cut() {
+    let no_node = [0x00u8, 0x08];
+    let no_value = [0x00u8, 0x0C, 0x08, 0x00, 0x00, 0x00];
     list(&no_node);
     list(&no_value);
+}
+
+// A filling bit, and a byte.
+fn left_over() {
+    let filling = [0x00u8, 0x08, 0x01];
+    let byte = [0x00u8, 0x00, 0x00];
     list(&filling);
-    list(&left_over);
+    list(&byte);
 }
 
 fn list(list: &[u8]) {
@@ -43,8 +51,8 @@ fn list(list: &[u8]) {
     show::bytes(list);
     show::text(b":");
     judged(requests::judge(list));
-    item(requests::request_at(list, 13));
-    show::text(b"\n");
+    item(list, 13);
+    show::end();
 }
 
 fn judged(j: Judged) {
@@ -56,8 +64,8 @@ fn judged(j: Judged) {
     show::text(b" combines");
 }
 
-fn item(item: Item) {
-    match item {
+fn item(list: &[u8], place: usize) {
+    match requests::request_at(list, place) {
         Item::Found(r, next) => found(r, next),
         Item::Short => show::text(b" short"),
     }
@@ -113,7 +121,7 @@ fn longest() {
     judge_first(&list, 20994);
     judge_first(&list, 20993);
     judge_first(&list, 20995);
-    show::text(b"\n");
+    show::end();
 }
 
 // Only the first bytes of a list.
@@ -132,20 +140,29 @@ fn too_long() {
     show::text(b"4097 requests, 65537 bytes of ones:");
     judged(requests::judge(&list));
     judged(requests::judge(&ones));
-    show::text(b"\n");
+    show::end();
 }
 
-// Every request of the longest list, one behind the other; and requests at places that are none.
+// Every request of the longest list, one behind the other; and what stands at other places.
 fn handed_out() {
     let mut list = [0u8; 20994];
     fill(&mut list);
+    all(&list);
+    last(&list);
+}
+
+fn all(list: &[u8]) {
     show::text(b"all of them:");
-    show::number(summed(&list));
-    show::text(b"\nat the last, at the end, at the last place:");
-    item(requests::request_at(&list, 167908));
-    item(requests::request_at(&list, 167952));
-    item(requests::request_at(&list, 18446744073709551615));
-    show::text(b"\n");
+    show::number(summed(list));
+    show::end();
+}
+
+fn last(list: &[u8]) {
+    show::text(b"at the last, at the end, at the last place:");
+    item(list, 167908);
+    item(list, 167952);
+    item(list, 18446744073709551615);
+    show::end();
 }
 
 fn summed(list: &[u8]) -> u64 {

@@ -6,6 +6,11 @@ pub fn text(text: &[u8]) {
     io::write_all(STDOUT_FILENO, text);
 }
 
+// The end of a line.
+pub fn end() {
+    text(b"\n");
+}
+
 // Bytes in hexadecimal, each behind a blank.
 pub fn bytes(bytes: &[u8]) {
     for i in 0..bytes.len() {

@@ -10,6 +10,7 @@ pub fn run() {
     whole();
     long();
     written();
+    out_of_rule();
 }
 
 // Document 01's two cases that are not marked P.
@@ -37,7 +38,7 @@ fn read(bytes: &[u8]) {
     show::bytes(bytes);
     show::text(b":");
     reading(table::read(bytes));
-    show::text(b"\n");
+    show::end();
 }
 
 fn reading(r: Reading) {
@@ -59,7 +60,7 @@ fn path() -> Tree {
     }
 }
 
-// The longest table, into as many bytes as it takes, one fewer and one more; and read back.
+// The longest table, into a byte more than it takes.
 fn whole() {
     let mut out = [255u8; 226];
     show::text(b"path of 256:");
@@ -68,7 +69,7 @@ fn whole() {
     show::byte(out[224]);
     show::byte(out[225]);
     reading(table::read(&out));
-    show::text(b"\n");
+    show::end();
 }
 
 fn long() {
@@ -77,42 +78,40 @@ fn long() {
     show::text(b"65537 bytes of zeros, of ones:");
     reading(table::read(&zeros));
     reading(table::read(&ones));
-    show::text(b"\n");
+    show::end();
 }
 
+// Into exactly as many bytes, and into one fewer.
 fn written() {
     let mut exact = [255u8; 225];
     let mut short = [255u8; 224];
-    let mut none = [255u8; 1];
     show::text(b"path of 256 into 225 and 224 bytes:");
     answer(table::write(path(), &mut exact));
     reading(table::read(&exact));
     answer(table::write(path(), &mut short));
     show::byte(short[0]);
-    show::text(b"\ntrees out of rule:");
+    show::end();
+}
+
+fn out_of_rule() {
+    let mut out = [255u8; 1];
+    show::text(b"trees out of rule:");
+    write(0, 0, &mut out);
+    write(257, 0, &mut out);
+    write(2, 1, &mut out);
+    show::byte(out[0]);
+    show::end();
+}
+
+// A tree of so many nodes, with one parent for all.
+fn write(count: u16, parent: u8, out: &mut [u8]) {
     answer(table::write(
         Tree {
-            count: 0,
-            parents: [0; 256],
+            count,
+            parents: [parent; 256],
         },
-        &mut none,
+        out,
     ));
-    answer(table::write(
-        Tree {
-            count: 257,
-            parents: [0; 256],
-        },
-        &mut none,
-    ));
-    answer(table::write(
-        Tree {
-            count: 2,
-            parents: [1; 256],
-        },
-        &mut none,
-    ));
-    show::byte(none[0]);
-    show::text(b"\n");
 }
 
 fn answer(w: Written) {

@@ -1,8 +1,8 @@
--- `bits::sweep` is safe and ends.
+-- `bits::swept` is safe and ends.
 use Prim.Native.Nat.{_-_}
 use borrow.Author.Needs.{needs}
-use Rattle.cases.proofs.bits.sweep.Statement.{statement}
-use Rattle.cases.proofs.bits.sweep.Tie as tie
+use Rattle.cases.proofs.bits.swept.Statement.{statement}
+use Rattle.cases.proofs.bits.swept.Tie as tie
 
 abbrev Inv-loop : tie.InvT-loop
 Inv-loop sum₀ k₀ sum k = Unit
@@ -31,8 +31,8 @@ loop-again c = search needs
 returns : tie.Need-returns Inv-loop μ-loop
 returns c = search needs
 
-pub sweep-spec : {M : Type 1} → statement M
-sweep-spec =
+pub swept-spec : {M : Type 1} → statement M
+swept-spec =
     tie.close
     (tie.spec
     Inv-loop
