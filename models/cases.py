@@ -1,31 +1,52 @@
 #!/usr/bin/env python3
-"""What the program `cases` must print, by a model of its own: the bytes of a field are one large number, those of a table,
-list or log one string of binary digits.
+"""The cases that the program `cases` runs, and what it must print, by a model of its own: bytes are strings of binary digits.
 
-It shares nothing with the crates but document 01's rules. `python3 models/cases.py | diff - crates/cases/stdout`
-says nothing where the stored output is the model's."""
+It shares nothing with the crates but document 01's rules.
+`python3 models/cases.py stdin` writes the cases, `python3 models/cases.py stdout` what must be printed; the crate's files of these names are what they wrote."""
 
-USABLE = 65536
-LAST_PLACE = 2**64 - 1
+import sys
 
-
-def lies(data, place, width):
-    return width <= 64 and place + width <= 8 * min(len(data), USABLE)
+USABLE = 8 * 65536
+LAST = 2**64 - 1
+KINDS = ("probe", "response", "update", "release")
 
 
-def get(data, place, width):
-    if not lies(data, place, width):
-        return None
-    return int.from_bytes(data, "big") >> (8 * len(data) - place - width) & (1 << width) - 1
+# ---- bytes and binary digits
 
 
-def put(data, place, width, value):
-    """The bytes after, and whether there was room."""
-    if not lies(data, place, width) or value >= 1 << width:
-        return data, False
-    shift = 8 * len(data) - place - width
-    others = int.from_bytes(data, "big") & ~((1 << width) - 1 << shift)
-    return (others | value << shift).to_bytes(len(data), "big"), True
+def digits(data):
+    return "".join(format(byte, "08b") for byte in data)
+
+
+def undigits(text):
+    return bytes(int(text[i : i + 8], 2) for i in range(0, len(text), 8))
+
+
+def binary(number, width):
+    return format(number, f"0{width}b") if width else ""
+
+
+def packed(parts):
+    """Fields of (width, number) as bytes, filled with zero bits."""
+    text = "".join(binary(number, width) for width, number in parts)
+    return undigits(text + "0" * (-len(text) % 8))
+
+
+def mixed(total, number):
+    return (total % 2**32 * 31 + number % 2**32) % 2**32
+
+
+def shown(data):
+    """Bytes in hexadecimal; of many, how many there are and a sum over them."""
+    if len(data) <= 32:
+        return "".join(f" {byte:02x}" for byte in data)
+    total = 0
+    for byte in data:
+        total = mixed(total, byte)
+    return f" {len(data)} bytes, sum {total}"
+
+
+# ---- fields
 
 
 def encode(value, width):
@@ -40,87 +61,28 @@ def decode(number, width):
     return number - (1 << width) if number >> width - 1 else number
 
 
-def decode32(number, width):
+def or_misfit(answer):
+    return " misfit" if answer is None else f" {answer}"
+
+
+def field(place, width, value, data):
+    text = digits(data)
+    lies = width <= 64 and place + width <= min(len(text), USABLE)
+    put = lies and value < 1 << width
+    if put:
+        text = text[:place] + binary(value, width) + text[place + width :]
+    found = int(text[place : place + width] or "0", 2) if lies else "short"
+    return f"field {place} {width} {value}: {'put' if put else 'refused'}{shown(undigits(text))} {found}"
+
+
+def sign(number, width):
     value = decode(number, width)
-    return value if value is not None and -(1 << 31) <= value < 1 << 31 else None
+    small = value if value is not None and -(2**31) <= value < 2**31 else None
+    number64 = encode(decode(number, 64), width)
+    return f"sign {number} {width}:{or_misfit(value)}{or_misfit(small)}{or_misfit(number64)}"
 
 
-def line(text, *words, end="\n"):
-    print(text + ":" + "".join(" " + str(word) for word in words), end=end)
-
-
-def or_else(answer, word):
-    return word if answer is None else answer
-
-
-def found(*args):
-    return or_else(get(*args), "short")
-
-
-def fitting(answer):
-    return or_else(answer, "misfit")
-
-
-def puts(data, writes):
-    """The bytes after the writes, and a word for each."""
-    words = []
-    for write in writes:
-        data, room = put(data, *write)
-        words.append("done" if room else "refused")
-    return data, words
-
-
-def mixed(total, number):
-    return (total % 2**32 * 31 + number % 2**32) % 2**32
-
-
-def copied(width, place):
-    number = get(bytes([203, 242, 156, 228, 132, 34, 35, 37]), 0, width)
-    data, room = put(bytes([170]) * 12, place, width, number)
-    assert room
-    total = 0
-    for byte in data:
-        total = mixed(total, byte)
-    return mixed(total, get(data, place, width))
-
-
-def bits():
-    two, words = puts(bytes([255, 255]), [(3, 5, 0)])
-    line("5 bits of 0 at 3", *words, two.hex(" "))
-    two, words = puts(two, [(8, 9, 0), (0, 65, 0), (LAST_PLACE, 1, 0), (3, 5, 32)])
-    line("9 bits at 8, 65 at 0, 1 at the last place, 32 in 5 bits", *words, two.hex(" "))
-    places = [(0, 16), (16, 0), (16, 1), (LAST_PLACE, 1)]
-    line("16 bits at 0, none at 16, 1 at 16, 1 at the last place", *(found(two, *p) for p in places))
-
-    line("of no bytes 0 bits, 1 bit", found(b"", 0, 0), found(b"", 0, 1))
-    long, words = puts(bytes([255]) * (USABLE + 1), [(524280, 8, 1), (524288, 1, 1), (524225, 64, 1)])
-    words += [found(long, 524224, 64), found(long, 524288, 1)]
-    line("of 65537 bytes the last 8 usable bits, 1 behind, 64 around", *words)
-
-    line("-1, 0, 1 in 1 bit", *(fitting(encode(value, 1)) for value in (-1, 0, 1)))
-    line("-2147483648 in 32 bits, in 31", *(fitting(encode(-(2**31), width)) for width in (32, 31)))
-    ends = [encode(-(2**63), 64), encode(2**63 - 1, 64), decode(2**63, 64), decode(2**63 - 1, 64)]
-    line("the ends of 64 bits", *map(fitting, ends))
-    values = [decode32(2**32 - 1, 32), decode32(2**31, 40)]
-    line("4294967295 in 32 bits, 2147483648 in 40, as an i32", *map(fitting, values))
-    line("1 in 1 bit, 2 in 1 bit, 0 in none", *map(fitting, [decode(1, 1), decode(2, 1), decode(0, 0)]))
-
-    total = 0
-    for width in range(65):
-        for place in range(16):
-            total = mixed(total, copied(width, place))
-    line("65 widths at 16 places", total)
-
-
-def digits(data):
-    return "".join(format(byte, "08b") for byte in data)
-
-
-def packed(parts):
-    """Fields of (width, number) as bytes, filled with zero bits."""
-    text = "".join(format(number, f"0{width}b") if width else "" for width, number in parts)
-    text += "0" * (-len(text) % 8)
-    return bytes(int(text[i : i + 8], 2) for i in range(0, len(text), 8))
+# ---- tables and lists
 
 
 class Refused(Exception):
@@ -130,8 +92,8 @@ class Refused(Exception):
 class Bits:
     """The fields of some bytes, one by one."""
 
-    def __init__(self, data):
-        self.text, self.place = digits(data), 0
+    def __init__(self, data, place=0):
+        self.text, self.place = digits(data), place
 
     def take(self, width):
         if self.place + width > len(self.text):
@@ -145,48 +107,49 @@ class Bits:
             raise Refused(4)
 
 
-def table(data):
-    """A refusal and no parents, or 0 and the parent of each node but the first."""
-    fields, parents = Bits(data), []
-    try:
-        count = fields.take(9)
-        if not 1 <= count <= 256:
-            raise Refused(2)
-        for child in range(1, count):
-            parent = fields.take((child - 1).bit_length())
-            if parent >= child:
-                raise Refused(3)
-            parents.append(parent)
-        fields.end()
-    except Refused as refused:
-        return refused.args[0], None
-    return 0, parents
+def parents_of(data):
+    fields = Bits(data)
+    count = fields.take(9)
+    if not 1 <= count <= 256:
+        raise Refused(2)
+    parents = []
+    for child in range(1, count):
+        parent = fields.take((child - 1).bit_length())
+        if parent >= child:
+            raise Refused(3)
+        parents.append(parent)
+    fields.end()
+    return parents
 
 
 def table_of(parents):
     return packed([(9, len(parents) + 1)] + [(k.bit_length(), parent) for k, parent in enumerate(parents)])
 
 
-def reading(data):
-    refusal, parents = table(data)
-    return f"{refusal}, {0 if parents is None else len(parents) + 1} nodes"
+def written(parents, out):
+    """The words for writing a table into some bytes, and the bytes after."""
+    data = table_of(parents)
+    if len(data) > len(out):
+        return f" 9 0 bytes,{shown(out)}"
+    return f" 0 {len(data)} bytes,{shown(data + out[len(data) :])}"
 
 
-def written(parents, room):
-    length = len(table_of(parents))
-    return f"0, {length} bytes" if length <= room else "9, 0 bytes"
+def table(data):
+    try:
+        parents = parents_of(data)
+    except Refused as refused:
+        return f"table{shown(data)}: {refused.args[0]}"
+    return f"table{shown(data)}: 0 {len(parents) + 1} nodes, back{written(parents, bytes([255]) * 256)}"
 
 
-def tables():
-    for case in ("8000", "008000", "0480", "04b0", "04800000", "04800001"):
-        data = bytes.fromhex(case)
-        line("table " + data.hex(" "), reading(data))
-    path = list(range(255))
-    out = table_of(path) + bytes([255])
-    line("path of 256", written(path, 226), out[0:1].hex(), out[224:225].hex(), out[225:226].hex(), reading(out))
-    line("65537 bytes of zeros, of ones", reading(bytes(65537)), reading(bytes([255]) * 65537))
-    line("path of 256 into 225 and 224 bytes", written(path, 225), reading(table_of(path)), written(path, 224), "ff")
-    line("trees out of rule", "6, 0 bytes", "6, 0 bytes", "6, 0 bytes", "ff")
+def tree(count, children, changed, out):
+    entries = [(i - 1) // children % 256 if 0 < i < count and children else 0 for i in range(256)]
+    if changed < 256:
+        entries[changed] = 255
+    unused = [entries[0]] + entries[max(count, 1) :]
+    right = 1 <= count <= 256 and not any(unused) and all(entries[i] < i for i in range(1, count))
+    answer = written(entries[1:count], out) if right else f" 6 0 bytes,{shown(out)}"
+    return f"tree {count} {children} {changed}:{answer}"
 
 
 def request(fields):
@@ -194,132 +157,257 @@ def request(fields):
     return ("write", node, decode(fields.take(32), 32)) if kind else ("combine", node)
 
 
-def judged(data):
+def requests_of(data):
     fields = Bits(data)
+    count = fields.take(13)
+    if count > 4096:
+        raise Refused(5)
+    asked = [request(fields) for _ in range(count)]
+    fields.end()
+    return asked
+
+
+def list_of(asked):
+    parts = [(13, len(asked))]
+    for kind, node, *value in asked:
+        parts += [(1, kind == "write"), (8, node)] + [(32, encode(v, 32)) for v in value]
+    return packed(parts)
+
+
+def requests(data):
     try:
-        count = fields.take(13)
-        if count > 4096:
-            raise Refused(5)
-        kinds = [request(fields)[0] for _ in range(count)]
-        fields.end()
+        asked = requests_of(data)
     except Refused as refused:
-        return f"{refused.args[0]}, 0 requests, 0 combines"
-    return f"0, {count} requests, {kinds.count('combine')} combines"
-
-
-def item(data, place):
-    fields = Bits(data)
-    fields.place = place
-    try:
-        return " ".join(map(str, request(fields))) + f" to {fields.place}"
-    except Refused:
-        return "short"
-
-
-def lists():
-    for case in ("000800", "8000", "", "00", "0008", "000c08000000", "000801", "000000"):
-        data = bytes.fromhex(case)
-        line(" ".join(["list"] + ([data.hex(" ")] if data else [])), judged(data), item(data, 13))
-    writes = [(k % 256, -1 - k) for k in range(4096)]
-    parts = [(41, 1 << 40 | node << 32 | encode(value, 32)) for node, value in writes]
-    longest = packed([(13, 4096)] + parts)
-    line("4096 writes in 20994, 20993 and 20995 bytes", judged(longest), judged(longest[:-1]), judged(longest + b"\0"))
-    line("4097 requests, 65537 bytes of ones", judged(packed([(13, 4097)] + parts) + bytes(6)), judged(bytes([255]) * 65537))
+        return f"list{shown(data)}: {refused.args[0]}"
     total = 0
-    for node, value in writes:
-        total = mixed(total, mixed(node, encode(value, 32)))
-    line("all of them", total)
-    line("at the last, at the end, at the last place", *(item(longest, place) for place in (167908, 167952, LAST_PLACE)))
+    for kind, node, *value in asked:
+        total = mixed(total, mixed(node, encode(value[0], 32)) if value else node)
+    combines = sum(kind == "combine" for kind, *_ in asked)
+    return f"list{shown(data)}: 0 {len(asked)} requests, {combines} combines, sum {total}"
 
 
-KINDS = ("probe", "response", "update", "release")
+def item(place, data):
+    fields = Bits(data, place)
+    try:
+        words = " ".join(map(str, request(fields))) + f" to {fields.place}"
+    except Refused:
+        words = "short"
+    return f"item {place} of{shown(data)}: {words}"
 
 
-class Log:
-    """A log as a string of binary digits."""
-
-    def __init__(self, data):
-        self.text = digits(data)
-        self.usable = min(len(self.text), 8 * USABLE)
-
-    def write(self, place, kind, sender, receiver, value=None):
-        text = format(KINDS.index(kind), "02b") + format(sender, "08b") + format(receiver, "08b")
-        if value is not None:
-            number = encode(value, 40)
-            text += format(number or 0, "040b")
-        if place + len(text) > self.usable:
-            return "refused 9"
-        if value is not None and number is None:
-            return "refused 11"
-        self.text = self.text[:place] + text + self.text[place + len(text) :]
-        return place + len(text)
-
-    def read(self, place, end):
-        """The words for what is found, and the next place if it is a message."""
-        if end > self.usable or place > end:
-            return "refused 1", None
-        if place == end:
-            return "end", None
-        if end - place < 18:
-            return "refused 1", None
-        kind = KINDS[int(self.text[place : place + 2], 2)]
-        words = [kind, int(self.text[place + 2 : place + 10], 2), int(self.text[place + 10 : place + 18], 2)]
-        place += 18
-        if kind in ("response", "update"):
-            if end - place < 40:
-                return "refused 1", None
-            words.append(decode(int(self.text[place : place + 40], 2), 40))
-            place += 40
-        return " ".join(map(str, words)) + f" to {place}", place
-
-    def count(self, place, end):
-        place = self.read(place, end)[1]
-        return 0 if place is None else 1 + self.count(place, end)
-
-    def hex(self):
-        return bytes(int(self.text[i : i + 8], 2) for i in range(0, len(self.text), 8)).hex(" ")
+# ---- logs
 
 
-def entries(log, places, *words):
-    """What is read from each place to each end, a line each, and words behind the last."""
-    print("".join("\n  " + log.read(place, end)[0] for place, end in places), *words)
+def record(message):
+    kind, sender, receiver, *value = message
+    return binary(KINDS.index(kind), 2) + binary(sender, 8) + binary(receiver, 8) + "".join(binary(encode(v, 40), 40) for v in value)
 
 
-def logs():
-    log, places = Log(bytes([255]) * 20), [3]
-    messages = [("probe", 0, 255), ("response", 1, 2, -(2**39)), ("update", 3, 4, 2**39 - 1), ("release", 255, 0)]
+def entry(text, place, end):
+    """The words for what is found, and the next place if it is a message."""
+    if end > min(len(text), USABLE) or place > end:
+        return " refused 1", None
+    if place == end:
+        return " end", None
+    fields = Bits(b"")
+    fields.text, fields.place = text[:end], place
+    try:
+        message = [KINDS[fields.take(2)], fields.take(8), fields.take(8)]
+        if message[0] in ("response", "update"):
+            message.append(decode(fields.take(40), 40))
+    except Refused:
+        return " refused 1", None
+    return f" {' '.join(map(str, message))} to {fields.place},", fields.place
+
+
+def log_written(place, message, data):
+    text, room = digits(data), 18 if len(message) == 3 else 58
+    if place + room > min(len(text), USABLE):
+        answer, end = "refused 9", 0
+    elif len(message) == 4 and encode(message[3], 40) is None:
+        answer, end = "refused 11", 0
+    else:
+        answer = end = place + room
+        text = text[:place] + record(message) + text[end:]
+    words = " ".join(map(str, message))
+    return f"write {words} at {place}: {answer}{shown(undigits(text))}{entry(text, place, end)[0]}"
+
+
+def log_read(place, end, data):
+    text, at, count, words = digits(data), place, 0, ""
+    while True:
+        word, following = entry(text, at, end)
+        words += word
+        if following is None:
+            return f"read {place} {end} of{shown(data)}:{words} {count}"
+        at, count = following, count + 1
+
+
+# ---- the cases
+
+
+class Cases:
+    """The cases as they are handed in, and the lines that must come of them."""
+
+    def __init__(self):
+        self.data, self.lines, self.seed = [], [], 1
+
+    def draw(self, below):
+        """A number below a bound, the same in every run."""
+        self.seed = (self.seed * 6364136223846793005 + 1442695040888963407) % 2**64
+        return (self.seed >> 11) % below
+
+    def some(self, length):
+        return bytes(self.draw(256) for _ in range(length))
+
+    def add(self, letter, line, numbers=(), data=b""):
+        words = [number.to_bytes(8, "big") for number in (*numbers, 0, 0, 0)[:3]]
+        self.data.append(letter.encode() + len(data).to_bytes(3, "big") + b"".join(words) + data)
+        self.lines.append(line)
+
+    def field(self, place, width, value, data):
+        self.add("F", field(place, width, value, data), (place, width, value), data)
+
+    def sign(self, number, width):
+        self.add("S", sign(number, width), (number, width))
+
+    def table(self, data):
+        self.add("T", table(data), (), data)
+
+    def tree(self, count, children, changed, room):
+        out = bytes([255]) * room
+        self.add("W", tree(count, children, changed, out), (count, children, changed), out)
+
+    def list(self, data):
+        self.add("L", requests(data), (), data)
+
+    def item(self, place, data):
+        self.add("I", item(place, data), (place,), data)
+
+    def write(self, place, message, data):
+        kind, sender, receiver, *value = message
+        head = KINDS.index(kind) << 16 | sender << 8 | receiver
+        self.add("M", log_written(place, message, data), (place, head, encode((value or [0])[0], 64)), data)
+
+    def read(self, place, end, data):
+        self.add("R", log_read(place, end, data), (place, end), data)
+
+
+def fields(cases):
+    """The edges of a slice, of 64 bits and of the usable bytes; each width at three places."""
+    two, long = bytes([255, 255]), bytes([255]) * 65537
+    for place, width, value in ((3, 5, 0), (8, 9, 0), (0, 65, 0), (LAST, 1, 0), (LAST, 64, 0), (3, 5, 32), (0, 16, 1), (16, 0, 0), (16, 0, 1)):
+        cases.field(place, width, value, two)
+    cases.field(0, 0, 0, b"")
+    cases.field(0, 1, 0, b"")
+    cases.field(524224, 64, 1, long)
+    cases.field(524288, 1, 1, long)
+    for width in range(65):
+        for _ in range(3):
+            cases.field(cases.draw(33), width, cases.draw(1 << width), cases.some(12))
+
+
+def signs(cases):
+    """The ends of each width, and one past them."""
+    for width in (0, 1, 2, 31, 32, 33, 39, 40, 41, 63, 64, 65, LAST):
+        half = 1 << min(width, 64) - 1 if width else 0
+        for number in (0, 1, half - 1, half, half + 1, 2 * half - 1, 2 * half, LAST):
+            cases.sign(number % 2**64, width)
+
+
+def tables(cases):
+    """Document 01's cases; trees of many sizes, cut, lengthened, with a filling bit or a wrong parent."""
+    for case in ("8000", "008000", "0080", "01c0", "0200", "0230", "", "0000", "8080", "00c0", "0480", "04b0", "04800000", "04800001"):
+        cases.table(bytes.fromhex(case))
+    for count in (1, 2, 3, 4, 5, 9, 16, 17, 64, 129, 255, 256):
+        for parents in ([k for k in range(count - 1)], [0] * (count - 1), [cases.draw(k + 1) for k in range(count - 1)]):
+            data = table_of(parents)
+            cases.table(data)
+            cases.table(data[:-1])
+            cases.table(data + b"\0")
+            cases.table(data[:-1] + bytes([data[-1] | 1]))
+            if count > 2:
+                child = 2 + cases.draw(count - 2)
+                wrong = [(9, count)] + [(k.bit_length(), 2 ** k.bit_length() - 1 if k + 1 == child else p) for k, p in enumerate(parents)]
+                cases.table(packed(wrong))
+    for length in (1, 2, 3, 9, 225, 226):
+        cases.table(cases.some(length))
+    cases.table(table_of([0] * 9) + bytes(65536))
+
+
+def trees(cases):
+    """Written into just enough bytes, one fewer, many more; out of rule in each way."""
+    for count in (1, 2, 3, 17, 128, 256):
+        for children in (1, 2, 255):
+            length = len(table_of([0] * (count - 1)))
+            for room in (length, length - 1, length + 3, 0):
+                cases.tree(count, children, LAST, room)
+    for count, changed in ((0, LAST), (257, LAST), (65535, LAST), (5, 0), (5, 1), (5, 4), (5, 5), (5, 255), (256, 255), (256, 254)):
+        cases.tree(count, 1, changed, 226)
+
+
+def lists(cases):
+    """Document 01's cases; lists of many lengths, cut, lengthened, with a filling bit; the longest."""
+    for case in ("000800", "8000", "0000", "000c0800000014", "8008", "", "00", "0008", "000c08000000", "000801", "000000"):
+        cases.list(bytes.fromhex(case))
+    for count in (0, 1, 2, 3, 7, 8, 40, 300):
+        asked = []
+        for _ in range(count):
+            node = cases.draw(256)
+            asked.append(("combine", node) if cases.draw(2) else ("write", node, cases.draw(2**32) - 2**31))
+        data = list_of(asked)
+        for case in (data, data[:-1], data + b"\0", data[:-1] + bytes([data[-1] | 1])):
+            cases.list(case)
+    writes = [("write", k % 256, -1 - k) for k in range(4096)]
+    longest = list_of(writes)
+    for case in (longest, longest[:-1], longest + b"\0", packed([(13, 4097)]) + longest[2:], list_of([("combine", 0)] * 4096)):
+        cases.list(case)
+    cases.list(list_of(writes[:5]) + bytes(65536))
+    for place in (167908, 167940, LAST):
+        cases.item(place, longest)
+    for place in range(0, 48, 5):
+        cases.item(place, bytes.fromhex("000c08ffffff84"))
+
+
+def logs(cases):
+    """Each kind of message, among ones and zeros, where it has room and where not; logs of several messages."""
+    messages = [("probe", 0, 255), ("response", 1, 2, -(2**39)), ("update", 3, 4, 2**39 - 1), ("release", 255, 0), ("update", 0, 0, 0), ("response", 9, 8, -1)]
     for message in messages:
-        places.append(log.write(places[-1], *message))
-    end = places[-1]
-    line("log" + "".join(f" {place}" for place in places[1:]), log.hex())
-    line("read back", end="")
-    entries(log, [(place, end) for place in places], log.count(3, end))
+        room = len(record(message))
+        for place in (0, 3, 7, 8):
+            cases.write(place, message, bytes([255]) * 9)
+            cases.write(place, message, bytes(9))
+        for place in (72 - room, 73 - room, 72, 73, LAST):
+            cases.write(place, message, bytes([255]) * 9)
+    for value in (2**39, -(2**39) - 1, 2**63 - 1, -(2**63)):
+        cases.write(0, ("update", 1, 2, value), bytes(8))
+        cases.write(0, ("response", 1, 2, value), bytes(7))
+    cases.write(0, ("probe", 0, 0), b"")
+    for place in (524270, 524271):
+        cases.write(place, ("release", 7, 8), bytes(65537))
+    text = "101" + "".join(map(record, messages)) + "0" * 7
+    data, end = undigits(text + "1" * (-len(text) % 8)), len(text) - 7
+    for place, stop in ((3, end), (3, end - 1), (3, end + 1), (21, end), (79, 137), (79, 136), (79, 97), (0, 17), (0, 1), (end, end), (end + 1, end), (0, 0)):
+        cases.read(place, stop, data)
+    size = 8 * len(data)
+    for place, stop in ((size, size), (size + 1, size + 1), (0, size + 1), (LAST, size), (LAST, LAST), (size, LAST), (0, LAST)):
+        cases.read(place, stop, data)
+    cases.read(0, 0, b"")
+    cases.read(0, 1, b"")
+    cases.read(524270, 524289, bytes(65537))
 
-    log = Log(bytes([255]) * 3)
-    words = [log.write(7, "probe", 0, 0), log.write(0, "response", 0, 0, 0), log.write(LAST_PLACE, "release", 0, 0)]
-    words.append(log.write(0, "update", 0, 0, 2**39))
-    line("refused", *words, log.hex())
-    line("at the end", log.write(6, "probe", 0, 0), log.hex())
 
-    log = Log(bytes(65537))
-    line("of 65537 bytes", log.write(524270, "release", 7, 8), log.write(524271, "release", 7, 8), end="")
-    entries(log, [(524270, 524288), (524270, 524289), (524288, 524288)])
-    log = Log(bytes(8))
-    line("misfits", log.write(0, "update", 0, 0, 2**39), log.write(0, "response", 0, 0, -(2**39) - 1), log.hex())
-    log = Log(b"")
-    line("of no bytes", log.write(0, "probe", 0, 0), end="")
-    entries(log, [(0, 0), (0, 1)])
-
-    log = Log(bytes.fromhex("40403fffffffffc0"))
-    line("a response, cut by a bit, cut in its kind", end="")
-    entries(log, [(0, 58), (0, 57), (0, 1)])
-    line("past its end, past the log, at the last places", end="")
-    entries(log, [(59, 58), (65, 65), (LAST_PLACE, 64), (LAST_PLACE, LAST_PLACE)])
-    line("messages in it", log.count(0, 58), log.count(0, 57), log.count(0, 64))
+def main():
+    cases = Cases()
+    for part in (fields, signs, tables, trees, lists, logs):
+        part(cases)
+    if sys.argv[1:] == ["stdin"]:
+        sys.stdout.buffer.write(b"".join(cases.data))
+    elif sys.argv[1:] == ["stdout"]:
+        print("\n".join(cases.lines))
+    else:
+        sys.exit(__doc__)
 
 
 if __name__ == "__main__":
-    bits()
-    tables()
-    lists()
-    logs()
+    main()

@@ -1,14 +1,59 @@
-// Runs cases of fields, tables, lists and logs, and prints what came of each: document 01's that are
-// not marked P, and the edges of each format.
-mod bits; // fields
+// Runs the cases on standard input and prints what comes of each.
+//
+// A case is a letter, the number of its bytes in 3 bytes, three numbers of 8 bytes, and its bytes.
+mod input; // reading the cases
 mod lists;
 mod logs;
+mod numbers; // fields and what they stand for
 mod show; // printing
 mod tables;
 
+// As many as are there, and at most a million.
 fn main() {
-    bits::run();
-    tables::run();
-    lists::run();
-    logs::run();
+    let mut left: usize = 1000000;
+    while 0 < left {
+        left -= 1;
+        if !one() {
+            return;
+        }
+    }
+}
+
+// Whether there was one more case.
+fn one() -> bool {
+    let mut head = [0u8; 28];
+    let mut space = [0u8; 65600];
+    if input::head(&mut head) {
+        return input::body(&head, &mut space);
+    }
+    false
+}
+
+// One case: its letter says what is done with the numbers and the bytes.
+fn run(letter: u8, a: u64, b: u64, c: u64, bytes: &mut [u8]) {
+    if letter == b'F' {
+        return numbers::field(a, b, c, bytes);
+    }
+    if letter == b'S' {
+        return numbers::sign(a, b);
+    }
+    if letter == b'T' {
+        return tables::read(bytes);
+    }
+    if letter == b'W' {
+        return tables::write(a, b, c, bytes);
+    }
+    if letter == b'L' {
+        return lists::read(bytes);
+    }
+    if letter == b'I' {
+        return lists::item(a, bytes);
+    }
+    if letter == b'M' {
+        return logs::write(a, b, c, bytes);
+    }
+    if letter == b'R' {
+        return logs::read(a, b, bytes);
+    }
+    show::text(b"no such case\n");
 }

@@ -11,30 +11,18 @@ pub fn end() {
     text(b"\n");
 }
 
-// Bytes in hexadecimal, each behind a blank.
-pub fn bytes(bytes: &[u8]) {
-    for i in 0..bytes.len() {
-        byte(bytes[i]);
-    }
-}
-
-pub fn byte(x: u8) {
-    text(b" ");
-    io::print_hex(STDOUT_FILENO, wide(x), 2);
-}
-
 // A number in decimal, behind a blank.
 pub fn number(n: u64) {
     text(b" ");
     io::print_decimal(STDOUT_FILENO, n);
 }
 
-pub fn node(x: u8) {
-    number(wide(x));
-}
-
 pub fn size(n: usize) {
     number(n as u64);
+}
+
+pub fn byte(x: u8) {
+    number(wide(x));
 }
 
 // A value in decimal, behind a blank.
@@ -57,6 +45,40 @@ fn signed(encoded: Encoded) {
         text(b" -");
         io::print_decimal(STDOUT_FILENO, 18446744073709551615 - n + 1);
     }
+}
+
+// Bytes in hexadecimal, each behind a blank; of many, how many there are and a sum over them.
+pub fn bytes(bytes: &[u8]) {
+    if bytes.len() <= 32 {
+        return hexadecimal(bytes);
+    }
+    size(bytes.len());
+    text(b" bytes, sum");
+    number(summed(bytes));
+}
+
+fn hexadecimal(bytes: &[u8]) {
+    for i in 0..bytes.len() {
+        pair(bytes[i]);
+    }
+}
+
+fn pair(x: u8) {
+    text(b" ");
+    io::print_hex(STDOUT_FILENO, wide(x), 2);
+}
+
+fn summed(bytes: &[u8]) -> u64 {
+    let mut sum: u64 = 0;
+    for i in 0..bytes.len() {
+        sum = mixed(sum, wide(bytes[i]));
+    }
+    sum
+}
+
+// A sum that tells where each of its parts stood.
+pub fn mixed(sum: u64, x: u64) -> u64 {
+    (sum % 4294967296 * 31 + x % 4294967296) % 4294967296
 }
 
 pub fn wide(x: u8) -> u64 {

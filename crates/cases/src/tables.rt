@@ -4,119 +4,72 @@ use table::Reading;
 use table::Written;
 use tree::Tree;
 
-pub fn run() {
-    refused();
-    in_order();
-    whole();
-    long();
-    written();
-    out_of_rule();
-}
-
-// Document 01's two cases that are not marked P.
-fn refused() {
-    let count_alone = [0x80u8, 0x00];
-    let left_over = [0x00u8, 0x80, 0x00];
-    read(&count_alone);
-    read(&left_over);
-}
-
-// Nine nodes in two bytes: the field of node 5 is cut off. A wrong parent before it decides.
-fn in_order() {
-    let cut = [0x04u8, 0x80];
-    let wrong = [0x04u8, 0xB0];
-    let filled = [0x04u8, 0x80, 0x00, 0x00];
-    let filling = [0x04u8, 0x80, 0x00, 0x01];
-    read(&cut);
-    read(&wrong);
-    read(&filled);
-    read(&filling);
-}
-
-fn read(bytes: &[u8]) {
+// A table is read, and the tree is written into bytes of ones.
+pub fn read(bytes: &[u8]) {
     show::text(b"table");
     show::bytes(bytes);
     show::text(b":");
-    reading(table::read(bytes));
+    back(table::read(bytes));
     show::end();
 }
 
-fn reading(r: Reading) {
-    show::node(r.refusal);
-    show::text(b",");
-    show::number(r.tree.count as u64);
-    show::text(b" nodes");
+fn back(reading: Reading) {
+    show::byte(reading.refusal);
+    if reading.refusal == 0 {
+        show::number(reading.tree.count as u64);
+        show::text(b" nodes, back");
+        into_ones(reading.tree);
+    }
 }
 
-// A path of 256 nodes.
-fn path() -> Tree {
+fn into_ones(tree: Tree) {
+    let mut out = [255u8; 256];
+    answer(table::write(tree, &mut out));
+    show::bytes(&out);
+}
+
+// The tree of so many nodes in which each node but the first has so many children, as far as they
+// go, is written into the bytes; entry c is made 255 before.
+pub fn write(count: u64, children: u64, c: u64, out: &mut [u8]) {
+    show::text(b"tree");
+    show::number(count);
+    show::number(children);
+    show::number(c);
+    show::text(b":");
+    answer(table::write(grown(count % 65536, children, c), out));
+    show::bytes(out);
+    show::end();
+}
+
+fn answer(written: Written) {
+    show::byte(written.refusal);
+    show::size(written.bytes);
+    show::text(b" bytes,");
+}
+
+fn grown(count: u64, children: u64, c: u64) -> Tree {
     let mut parents = [0u8; 256];
-    for i in 0..255 {
-        parents[i + 1] = i as u8;
+    for i in 0..256usize {
+        parents[i] = parent(count, children, c, i as u64);
     }
     Tree {
-        count: 256,
+        count: (count % 65536) as u16,
         parents,
     }
 }
 
-// The longest table, into a byte more than it takes.
-fn whole() {
-    let mut out = [255u8; 226];
-    show::text(b"path of 256:");
-    answer(table::write(path(), &mut out));
-    show::byte(out[0]);
-    show::byte(out[224]);
-    show::byte(out[225]);
-    reading(table::read(&out));
-    show::end();
-}
-
-fn long() {
-    let zeros = [0u8; 65537];
-    let ones = [255u8; 65537];
-    show::text(b"65537 bytes of zeros, of ones:");
-    reading(table::read(&zeros));
-    reading(table::read(&ones));
-    show::end();
-}
-
-// Into exactly as many bytes, and into one fewer.
-fn written() {
-    let mut exact = [255u8; 225];
-    let mut short = [255u8; 224];
-    show::text(b"path of 256 into 225 and 224 bytes:");
-    answer(table::write(path(), &mut exact));
-    reading(table::read(&exact));
-    answer(table::write(path(), &mut short));
-    show::byte(short[0]);
-    show::end();
-}
-
-fn out_of_rule() {
-    let mut out = [255u8; 1];
-    show::text(b"trees out of rule:");
-    write(0, 0, &mut out);
-    write(257, 0, &mut out);
-    write(2, 1, &mut out);
-    show::byte(out[0]);
-    show::end();
-}
-
-// A tree of so many nodes, with one parent for all.
-fn write(count: u16, parent: u8, out: &mut [u8]) {
-    answer(table::write(
-        Tree {
-            count,
-            parents: [parent; 256],
-        },
-        out,
-    ));
-}
-
-fn answer(w: Written) {
-    show::node(w.refusal);
-    show::text(b",");
-    show::size(w.bytes);
-    show::text(b" bytes");
+fn parent(count: u64, children: u64, c: u64, i: u64) -> u8 {
+    if i == c {
+        return 255;
+    }
+    if i < 1 {
+        return 0;
+    }
+    if count <= i {
+        return 0;
+    }
+    if children < 1 {
+        return 0;
+    }
+    ((i - 1) / children % 256) as u8
 }

@@ -4,10 +4,10 @@ use Rattle.cases.proofs.lists.summed.Statement.{statement}
 use Rattle.cases.proofs.lists.summed.Tie as tie
 
 abbrev Inv-loop : tie.InvT-loop
-Inv-loop list sum₀ place₀ left₀ sum place left = Unit
+Inv-loop list first requests sum₀ place₀ left₀ sum place left = Unit
 
 abbrev μ-loop : tie.MeasureT-loop
-μ-loop list sum₀ place₀ left₀ sum place left = left
+μ-loop list first requests sum₀ place₀ left₀ sum place left = left
 
 loop-holds : tie.Need-loop-holds Inv-loop μ-loop
 loop-holds c = search needs

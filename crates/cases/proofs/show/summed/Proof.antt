@@ -1,20 +1,22 @@
--- `bits::summed` is safe and ends.
+-- `show::summed` is safe and ends.
+use mathlib.Core.Path.{_≡_}
 use Prim.Native.Nat.{_-_}
+use lib.ListN.{length}
 use borrow.Author.Needs.{needs}
-use Rattle.cases.proofs.bits.summed.Statement.{statement}
-use Rattle.cases.proofs.bits.summed.Tie as tie
+use Rattle.cases.proofs.show.summed.Statement.{statement}
+use Rattle.cases.proofs.show.summed.Tie as tie
 
 abbrev Inv-loop : tie.InvT-loop
-Inv-loop bytes sum₀ i₀ sum i = Unit
+Inv-loop bytes sum₀ i₀ i-end sum i = i-end ≡ length bytes
 
 abbrev μ-loop : tie.MeasureT-loop
-μ-loop bytes sum₀ i₀ sum i = 12 - i
+μ-loop bytes sum₀ i₀ i-end sum i = i-end - i
 
 loop-holds : tie.Need-loop-holds Inv-loop μ-loop
 loop-holds c = search needs
 
-element-copy-out-wide : tie.Need-element-copy-out-wide Inv-loop μ-loop
-element-copy-out-wide c = search needs
+shared-slice-read-wide : tie.Need-shared-slice-read-wide Inv-loop μ-loop
+shared-slice-read-wide c = search needs
 
 wide-requires : tie.Need-wide-requires Inv-loop μ-loop
 wide-requires c κs = search needs
@@ -41,7 +43,7 @@ summed-spec =
     Inv-loop
     μ-loop
     loop-holds
-    element-copy-out-wide
+    shared-slice-read-wide
     wide-requires
     mixed-requires
     add-i

@@ -1,23 +1,20 @@
--- `tables::path` is safe and ends.
+-- `tables::grown` is safe and ends.
 use Prim.Native.Nat.{_-_}
 use borrow.Author.Needs.{needs}
-use Rattle.cases.proofs.tables.path.Statement.{statement}
-use Rattle.cases.proofs.tables.path.Tie as tie
+use Rattle.cases.proofs.tables.grown.Statement.{statement}
+use Rattle.cases.proofs.tables.grown.Tie as tie
 
 abbrev Inv-loop : tie.InvT-loop
-Inv-loop parents₀ i₀ parents i = Unit
+Inv-loop count children c parents₀ i₀ parents i = Unit
 
 abbrev μ-loop : tie.MeasureT-loop
-μ-loop parents₀ i₀ parents i = 255 - i
+μ-loop count children c parents₀ i₀ parents i = 256 - i
 
 loop-holds : tie.Need-loop-holds Inv-loop μ-loop
 loop-holds c = search needs
 
-cast-parents : tie.Need-cast-parents Inv-loop μ-loop
-cast-parents c = search needs
-
-add-parents : tie.Need-add-parents Inv-loop μ-loop
-add-parents c = search needs
+parent-requires : tie.Need-parent-requires Inv-loop μ-loop
+parent-requires c κs = search needs
 
 array-write-parents : tie.Need-array-write-parents Inv-loop μ-loop
 array-write-parents c = search needs
@@ -31,20 +28,23 @@ loop-less c = search needs
 loop-again : tie.Need-loop-again Inv-loop μ-loop
 loop-again c = search needs
 
+cast-t12 : tie.Need-cast-t12 Inv-loop μ-loop
+cast-t12 c = search needs
+
 returns : tie.Need-returns Inv-loop μ-loop
 returns c = search needs
 
-pub path-spec : {M : Type 1} → statement M
-path-spec =
+pub grown-spec : {M : Type 1} → statement M
+grown-spec =
     tie.close
     (tie.spec
     Inv-loop
     μ-loop
     loop-holds
-    cast-parents
-    add-parents
+    parent-requires
     array-write-parents
     add-i
     loop-less
     loop-again
+    cast-t12
     returns)

@@ -1,10 +1,10 @@
--- `show::bytes` is safe and ends.
+-- `show::hexadecimal` is safe and ends.
 use mathlib.Core.Path.{_≡_}
 use Prim.Native.Nat.{_-_}
 use lib.ListN.{length}
 use borrow.Author.Needs.{needs}
-use Rattle.cases.proofs.show.bytes.Statement.{statement}
-use Rattle.cases.proofs.show.bytes.Tie as tie
+use Rattle.cases.proofs.show.hexadecimal.Statement.{statement}
+use Rattle.cases.proofs.show.hexadecimal.Tie as tie
 
 abbrev Inv-loop : tie.InvT-loop
 Inv-loop bytes i₀ i-end i = i-end ≡ length bytes
@@ -15,11 +15,11 @@ abbrev μ-loop : tie.MeasureT-loop
 loop-holds : tie.Need-loop-holds Inv-loop μ-loop
 loop-holds c = search needs
 
-shared-slice-read-byte : tie.Need-shared-slice-read-byte Inv-loop μ-loop
-shared-slice-read-byte c = search needs
+shared-slice-read-pair : tie.Need-shared-slice-read-pair Inv-loop μ-loop
+shared-slice-read-pair c = search needs
 
-byte-requires : tie.Need-byte-requires Inv-loop μ-loop
-byte-requires c κs = search needs
+pair-requires : tie.Need-pair-requires Inv-loop μ-loop
+pair-requires c κs = search needs
 
 add-i : tie.Need-add-i Inv-loop μ-loop
 add-i c = search needs
@@ -33,15 +33,15 @@ loop-again c = search needs
 returns : tie.Need-returns Inv-loop μ-loop
 returns c = search needs
 
-pub bytes-spec : {M : Type 1} → statement M
-bytes-spec =
+pub hexadecimal-spec : {M : Type 1} → statement M
+hexadecimal-spec =
     tie.close
     (tie.spec
     Inv-loop
     μ-loop
     loop-holds
-    shared-slice-read-byte
-    byte-requires
+    shared-slice-read-pair
+    pair-requires
     add-i
     loop-less
     loop-again
