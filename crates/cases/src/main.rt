@@ -8,7 +8,7 @@ mod numbers; // fields and what they stand for
 mod show; // printing
 mod tables;
 
-// As many as are there, and at most a million.
+// As many as are there, at most a million.
 fn main() {
     let mut left: usize = 1000000;
     while 0 < left {
