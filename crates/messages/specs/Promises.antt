@@ -8,15 +8,10 @@ use lib.ListN.{length}
 use Rattle.fields.specs.Bits.{bit}
 use Rattle.fields.specs.Fields.{field}
 use Rattle.fields.specs.Usable.{usableBits}
-use Rattle.messages.specs.Records.{Sized, fits, bitsOf, recordOf, widthOf}
+use Rattle.messages.specs.Records.{Sized, AllSized, fits, bitsOf, recordOf, widthOf}
 use Rattle.messages.specs.Writing.{writtenOf, logAfter, toldWritten, logged, bitsOfAll}
 use Rattle.messages.specs.Reading.{entryAt, told, Reads, countFrom}
 use Rattle.messages.specs.declared.Message.{Message}
-
--- every message of a list
-abbrev pub AllSized : List Message → Type 0
-AllSized [] = Unit
-AllSized (m ∷ ms) = Sized m × AllSized ms
 
 -- A record is a field of 18 or 58 bits.
 abbrev pub Record-fits : Type 0

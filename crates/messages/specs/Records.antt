@@ -1,6 +1,7 @@
 -- A message as a record: kind in 2 bits (0 probe, 1 response, 2 update, 3 release), sender in 8, receiver in 8, and for response and update the value in 40 bits, two's complement.
 use mathlib.Core.Path.{_≡_}
 use mathlib.Core.Bool.{Bool, true, cond, _||_}
+use mathlib.Core.List.{List, [], _∷_}
 use Prim.Native.Nat.{ℕ, _+_, _*_, _^_, _<_}
 use lib.Dec.{eqb}
 use Rattle.fields.specs.Twos.{twos, within}
@@ -35,6 +36,10 @@ fits (Release a b) = true
 -- sender and receiver are bytes, and the value fits
 abbrev pub Sized : Message → Type 0
 Sized m = (senderOf m < 256) × (receiverOf m < 256) × (fits m ≡ true)
+
+abbrev pub AllSized : List Message → Type 0
+AllSized [] = Unit
+AllSized (m ∷ ms) = Sized m × AllSized ms
 
 -- how many bits a record of a kind has, and that of a message
 unfoldable pub widthOf : ℕ → ℕ

@@ -54,6 +54,7 @@ pub fn place_after(e: Entry, place: usize) -> usize
     }
 }
 
+// Whether a message was read.
 pub fn is_message(e: Entry) -> bool
     ensures { λ r. ⌜ r ≡ isMessage e ⌝ }
 {

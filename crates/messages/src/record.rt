@@ -31,6 +31,7 @@ pub fn width_of(kind: u64) -> usize
     18
 }
 
+// The number of a message's kind.
 pub fn kind(message: Message) -> u64
     ensures { λ r. ⌜ r ≡ kindOf message ⌝ }
 {
@@ -108,6 +109,7 @@ pub fn part(log: &[u8], place: usize, width: usize) -> u64
     }
 }
 
+// A node's number in the log.
 fn node(log: &[u8], place: usize) -> u8
     requires { ⌜ place + 8 ≤ usableBits (length (now log)) ⌝ }
     ensures { λ r. ⌜ r ≡ field (now (log .entry)) place 8 ⌝ }
@@ -115,6 +117,7 @@ fn node(log: &[u8], place: usize) -> u8
     part(log, place, 8) as u8
 }
 
+// A value in the log.
 fn value(log: &[u8], place: usize) -> i64
     requires { ⌜ place + 40 ≤ usableBits (length (now log)) ⌝ }
     ensures { λ r. ⌜ r ≡ signed 40 (field (now (log .entry)) place 40) ⌝ }
@@ -144,6 +147,7 @@ fn with_value(head: u64, value: i64) -> u64
     }
 }
 
+// Whether a value fits 40 bits.
 fn encodes(value: i64) -> bool
     ensures { λ r. ⌜ r ≡ within 40 value ⌝ }
 {

@@ -52,6 +52,7 @@ pub fn parents(out: &mut [u8], parents: &[u8; 256], count: usize)
     }
 }
 
+// A node's number as that of a field.
 fn number(x: u8) -> u64
     ensures { λ r. ⌜ r ≡ x ⌝ }
 {
