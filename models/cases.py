@@ -298,6 +298,9 @@ def fields(cases):
     two, long = bytes([255, 255]), bytes([255]) * 65537
     for place, width, value in ((3, 5, 0), (8, 9, 0), (0, 65, 0), (LAST, 1, 0), (LAST, 64, 0), (3, 5, 32), (0, 16, 1), (16, 0, 0), (16, 0, 1)):
         cases.field(place, width, value, two)
+    for width in (64, 65, 66, LAST):
+        cases.field(0, width, 1, bytes(12))
+        cases.field(5, width, 0, bytes([255]) * 12)
     cases.field(0, 0, 0, b"")
     cases.field(0, 1, 0, b"")
     cases.field(524224, 64, 1, long)
