@@ -19,7 +19,7 @@ module _ (n u : ℕ) (hu : u < n) where
   unfolding turn
   turn-inside k h = omega arith
 
-  turn-once : (j k : ℕ) → j < n → k < n → turn n u j ≡ turn n u k → j ≡ k
+  pub turn-once : (j k : ℕ) → j < n → k < n → turn n u j ≡ turn n u k → j ≡ k
   unfolding turn
   turn-once j k hj hk e = omega arith
 

@@ -1,0 +1,71 @@
+-- The refusals step by step: those before a request says anything, then the room for its records.
+use mathlib.Core.Path.{_≡_, refl}
+use mathlib.Core.Bool.{Bool, true, false, cond}
+use mathlib.Core.Logic.{_≢_}
+use mathlib.Core.List.{List}
+use Prim.Native.Nat.{ℕ, _+_, _≤_, _<_}
+use native.Mathlib.Omega.{arith}
+use lib.Dec.{leb, ltb}
+use borrow.Author.Tests.{lt-ltb, ltb-true, leb-true, leb-false, lt-leb}
+use Rattle.fields.specs.Usable.{usableBits}
+use Rattle.messages.specs.Writing.{bitsOfAll}
+use Rattle.messages.specs.declared.Message.{Message}
+use Rattle.session.specs.Soundness.{limit, sound, Sound}
+use Rattle.session.specs.declared.Session.{Session}
+use Rattle.session.proofs.Soundly.{sound-exactly}
+use Rattle.mechanism.specs.Refusals.{allFit, room, refusalOf}
+use Rattle.aggregate.specs.Serving.{judgedOf}
+
+-- a request at x may say what it has to say
+pub record Ready (s : Session) (x len place : ℕ) : Type 0 where
+  pub holds : Sound 2 s
+  pub inside : x < s .tree .count
+  pub free : s .accepted < limit
+  pub placed : place ≤ usableBits len
+
+-- the two chains of tests
+judge : Bool → Bool → Bool → Bool → ℕ
+judge a b c d = cond a (cond b (cond c (cond d 0 9) 8) 7) 6
+
+refuse : Bool → Bool → Bool → Bool → Bool → ℕ
+refuse a b c d e = cond a (cond b (cond c (cond d (cond e 0 11) 9) 8) 7) 6
+
+all-passed : (a b c d : Bool) → judge a b c d ≡ 0 → (a ≡ true) × (b ≡ true) × (c ≡ true) × (d ≡ true)
+unfolding judge
+all-passed true true true true e = (refl, refl, refl, refl)
+all-passed true true true false e = absurd (omega arith)
+all-passed true true false d e = absurd (omega arith)
+all-passed true false c d e = absurd (omega arith)
+all-passed false b c d e = absurd (omega arith)
+
+first-failed : (a b c d e f : Bool) → (d ≡ false → e ≡ false) → judge a b c d ≢ 0 → refuse a b c e f ≡ judge a b c d
+unfolding judge refuse
+first-failed false b c d e f h n = refl
+first-failed true false c d e f h n = refl
+first-failed true true false d e f h n = refl
+first-failed true true true true e f h n = absurd (n refl)
+first-failed true true true false e f h n = rw (h refl)
+
+module _ (s : Session) (x len place : ℕ) where
+  pub ready : judgedOf s x len place ≡ 0 → Ready s x len place
+  unfolding judgedOf judge
+  ready e =
+      let t = all-passed (sound 2 s) (ltb x (s .tree .count)) (ltb (s .accepted) limit) (leb place (usableBits len)) e in
+      record {
+        holds = sound-exactly 2 s .0 (t .0);
+        inside = ltb-true x (s .tree .count) (t .1);
+        free = ltb-true (s .accepted) limit (t .2);
+        placed = leb-true place (usableBits len) (t .3);
+      }
+
+  module _ (ms : List Message) where
+    -- a refusal before is the refusal
+    pub refused-before : judgedOf s x len place ≢ 0 → refusalOf 2 s x len place ms ≡ judgedOf s x len place
+    unfolding judgedOf refusalOf judge refuse
+    refused-before = first-failed (sound 2 s) (ltb x (s .tree .count)) (ltb (s .accepted) limit) (leb place (usableBits len)) (room len place ms) (allFit ms)
+        (λ e. lt-leb (place + bitsOfAll ms) (usableBits len) (omega (arith, leb-false place (usableBits len) e)))
+
+    -- else it is the room that decides, where all values fit
+    pub by-room : Ready s x len place → allFit ms ≡ true → refusalOf 2 s x len place ms ≡ cond (room len place ms) 0 9
+    unfolding refusalOf
+    by-room r f = rw (sound-exactly 2 s .1 (r .holds), lt-ltb x (s .tree .count) (r .inside), lt-ltb (s .accepted) limit (r .free), f)

@@ -1,0 +1,56 @@
+-- What a request answers, the session it returns, and the log it leaves. The operation is the sum, the break count 2.
+use mathlib.Core.Bool.{cond}
+use mathlib.Core.List.{List}
+use Prim.Native.Nat.{ℕ, zero, suc, _+_}
+use lib.Dec.{eqb, leb, ltb}
+use lib.IntN.{ℤ, pos}
+use lib.ListN.{length}
+use Rattle.fields.specs.Usable.{usableBits}
+use Rattle.tree.specs.Operation.{sum}
+use Rattle.messages.specs.Writing.{logged, bitsOfAll}
+use Rattle.messages.specs.declared.Message.{Message}
+use Rattle.requests.specs.declared.Request.{Request}
+use Rattle.session.specs.Soundness.{limit, sound}
+use Rattle.session.specs.declared.Session.{Session}
+use Rattle.mechanism.specs.Requests.{nodeOf, says, after}
+use Rattle.mechanism.specs.Refusals.{room, refusalOf}
+use Rattle.aggregate.specs.declared.Outcome.{Outcome}
+use Rattle.aggregate.specs.declared.Served.{Served}
+
+-- the number of a refusal and zeros, and the session as it came
+abbrev pub refused : ℕ → Session → Served
+refused n s = record { outcome = record { refusal = n; answer = pos 0; messages = 0; next = 0 }; session = s }
+
+-- the answer, the messages and the next log place, and the session after
+abbrev pub accepted : ℤ → List Message → ℕ → Session → Served
+accepted z ms place s = record { outcome = record { refusal = 0; answer = z; messages = length ms; next = place + bitsOfAll ms }; session = s }
+
+-- what is done where there is no refusal
+abbrev pub served : ℕ → Served → Session → Served
+served zero done s = done
+served (suc n) done s = refused (suc n) s
+
+-- a request to a log of len bytes, from place on
+abbrev pub refusal : Session → Request → ℕ → ℕ → ℕ
+refusal s r len place = refusalOf 2 s (nodeOf r) len place (says sum s r .log)
+
+unfoldable pub servedOf : Session → Request → ℕ → ℕ → Served
+servedOf s r len place = served (refusal s r len place) (accepted (says sum s r .sum) (says sum s r .log) place (after sum 2 s r)) s
+
+-- the records of the messages from place on; as it was where the request is refused
+unfoldable pub logOf : Session → Request → List ℕ → ℕ → List ℕ
+logOf s r log place = cond (eqb (refusal s r (length log) place) 0) (logged log place (says sum s r .log)) log
+
+-- ---- the same, step by step
+
+-- what is answered and logged where all else is in order, by the room there is
+unfoldable pub outcomeOf : ℕ → ℕ → ℤ → List Message → Outcome
+outcomeOf len place z ms =
+    cond (room len place ms) (record { refusal = 0; answer = z; messages = length ms; next = place + bitsOfAll ms }) (record { refusal = 9; answer = pos 0; messages = 0; next = 0 })
+
+unfoldable pub loggedOf : List ℕ → ℕ → List Message → List ℕ
+loggedOf log place ms = cond (room (length log) place ms) (logged log place ms) log
+
+-- the refusal of a request at x before it says anything
+unfoldable pub judgedOf : Session → ℕ → ℕ → ℕ → ℕ
+judgedOf s x len place = cond (sound 2 s) (cond (ltb x (s .tree .count)) (cond (ltb (s .accepted) limit) (cond (leb place (usableBits len)) 0 9) 8) 7) 6

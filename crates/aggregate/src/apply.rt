@@ -1,0 +1,139 @@
+// What messages make of a session: each counts at its pair, and becomes its cache.
+use crate::links;
+use crate::trace;
+ghost use mathlib.Core.Path.{_≡_};
+ghost use Prim.Native.Nat.{_-_, _<_, _≤_};
+ghost use Rattle.session.specs.Soundness.{Sound, limit};
+ghost use Rattle.mechanism.specs.Applying as spec;
+ghost use Rattle.mechanism.specs.Requests.{linksOf, relinked};
+ghost use Rattle.aggregate.specs.Traces.{messagesIn};
+ghost use Rattle.aggregate.specs.Afters.{pairsOf, linksBy, Counts};
+use messages::Message;
+use session::Pairs;
+use session::Session;
+
+// The session after the first len messages, and one more request accepted.
+pub fn applied(session: Session, trace: &[u64; 510], len: usize) -> Session
+    requires { ⌜ (len ≤ 510) × (Sound 2 session × (session .accepted < limit)) ⌝ }
+    ensures { λ r. ⌜ r ≡ relinked session (spec.applied (messagesIn (now (trace .entry)) len) (linksOf session)) ⌝ }
+{
+    let tree = session.tree;
+    let values = session.values;
+    let up = session.up;
+    let down = session.down;
+    let mut up_lease = up.lease;
+    let mut up_cache = up.cache;
+    let mut up_messages = up.messages;
+    let mut down_lease = down.lease;
+    let mut down_cache = down.cache;
+    let mut down_messages = down.messages;
+    apply(
+        trace,
+        len,
+        &mut up_lease,
+        &mut up_cache,
+        &mut up_messages,
+        &mut down_lease,
+        &mut down_cache,
+        &mut down_messages,
+    );
+    Session {
+        tree,
+        values,
+        up: Pairs {
+            lease: up_lease,
+            cache: up_cache,
+            messages: up_messages,
+        },
+        down: Pairs {
+            lease: down_lease,
+            cache: down_cache,
+            messages: down_messages,
+        },
+        accepted: session.accepted + 1,
+    }
+}
+
+// The first len messages, each at its pair.
+fn apply(
+    trace: &[u64; 510],
+    len: usize,
+    up_lease: &mut [u8; 256],
+    up_cache: &mut [i64; 256],
+    up_messages: &mut [u32; 256],
+    down_lease: &mut [u8; 256],
+    down_cache: &mut [i64; 256],
+    down_messages: &mut [u32; 256],
+)
+    requires { ⌜ (len ≤ 510) × Counts 2097152 (linksBy (now «up_lease») (now «up_cache») (now «up_messages») (now «down_lease») (now «down_cache») (now «down_messages»)) ⌝ }
+    ensures { λ _.
+        ⌜ linksBy (now («up_lease» .exit)) (now («up_cache» .exit)) (now («up_messages» .exit)) (now («down_lease» .exit)) (now («down_cache» .exit)) (now («down_messages» .exit))
+        ≡ spec.applied (messagesIn (now (trace .entry)) len) (linksBy (now («up_lease» .entry)) (now («up_cache» .entry)) (now («up_messages» .entry)) (now («down_lease» .entry)) (now («down_cache» .entry)) (now («down_messages» .entry))) ⌝ }
+{
+    let mut k: usize = 0;
+    while k < len {
+        let message = trace::decoded(trace[k]);
+        k += 1;
+        let u = from(message);
+        let v = to(message);
+        if v < u {
+            hit(up_lease, up_cache, up_messages, u, message);
+        } else {
+            hit(down_lease, down_cache, down_messages, v, message);
+        }
+    }
+}
+
+// What a message makes of the entry of its pair.
+fn hit(
+    lease: &mut [u8; 256],
+    cache: &mut [i64; 256],
+    messages: &mut [u32; 256],
+    i: usize,
+    message: Message,
+)
+    requires { ⌜ (i < 256) × (spec.readAt (pairsOf (now lease) (now cache) (now messages)) i .sent < 4294967295) ⌝ }
+    ensures { λ _. ⌜ pairsOf (now (lease .exit)) (now (cache .exit)) (now (messages .exit)) ≡ spec.storeAt (pairsOf (now (lease .entry)) (now (cache .entry)) (now (messages .entry))) i (spec.hit message (spec.readAt (pairsOf (now (lease .entry)) (now (cache .entry)) (now (messages .entry))) i)) ⌝ }
+{
+    messages[i] = messages[i] + 1;
+    match message {
+        Message::Probe(_, _) => {}
+        Message::Response(_, _, z) => {
+            cache[i] = z;
+        }
+        Message::Update(_, _, z) => {
+            cache[i] = z;
+            lease[i] = less_one(lease[i]);
+        }
+        Message::Release(_, _) => {}
+    }
+}
+
+fn less_one(x: u8) -> u8
+    ensures { λ r. ⌜ r ≡ x - 1 ⌝ }
+{
+    if 0 < x { x - 1 } else { 0 }
+}
+
+// The pair that owns a message: its near end, and its far end.
+fn from(message: Message) -> usize
+    ensures { λ r. ⌜ (r ≡ spec.fromOf message) × (r < 256) ⌝ }
+{
+    match message {
+        Message::Probe(_, b) => links::node(b),
+        Message::Response(a, _, _) => links::node(a),
+        Message::Update(a, _, _) => links::node(a),
+        Message::Release(_, b) => links::node(b),
+    }
+}
+
+fn to(message: Message) -> usize
+    ensures { λ r. ⌜ (r ≡ spec.toOf message) × (r < 256) ⌝ }
+{
+    match message {
+        Message::Probe(a, _) => links::node(a),
+        Message::Response(_, b, _) => links::node(b),
+        Message::Update(_, b, _) => links::node(b),
+        Message::Release(a, _) => links::node(a),
+    }
+}

@@ -1,0 +1,70 @@
+-- The table of a session: loaded and written back, written and loaded back, and the output kept where it is refused.
+use mathlib.Core.Path.{_≡_, refl, _∙_}
+use mathlib.Core.Bool.{Bool, true, false}
+use mathlib.Core.List.{List}
+use Prim.Native.Nat.{ℕ}
+use native.Mathlib.Decide.{ℕ-discrete}
+use native.Mathlib.Omega.{arith}
+use lib.ListN.{length, take}
+use Rattle.tree.proofs.Cases.{either}
+use Rattle.table.specs.Reading.{treeOf, readingOf}
+use Rattle.table.specs.Writing as table
+use Rattle.table.proofs.RoundTrip as table-laws
+use Rattle.table.proofs.Verdicts.{ruled-exactly, reading-accepted}
+use Rattle.session.specs.Promises.{Loaded-writes-back, Written-loads-back, Refused-output-kept}
+use Rattle.session.specs.Soundness.{sound}
+use Rattle.session.specs.Starting.{freshOf, loadedOf}
+use Rattle.session.specs.Tables.{writtenOf, outputOf}
+use Rattle.session.specs.declared.Session.{Session}
+use Rattle.session.proofs.Soundly.{sound-holds}
+use Rattle.session.proofs.Starts.{fresh-sound, loads-not, load-accepts}
+
+-- ---- a sound session's table is that of its tree, and an unsound one has none
+
+module _ (s : Session) (e : sound 2 s ≡ true) where
+  sound-written : (room : ℕ) → writtenOf s room ≡ table.writtenOf (s .tree) room
+  unfolding writtenOf
+  sound-written room = rw e
+
+  sound-output : (out : List ℕ) → outputOf s out ≡ table.outputOf (s .tree) out
+  unfolding outputOf
+  sound-output out = rw e
+
+module _ (s : Session) (e : sound 2 s ≡ false) where
+  unsound-written : (room : ℕ) → writtenOf s room ≡ record { refusal = 6; bytes = 0 }
+  unfolding writtenOf
+  unsound-written room = rw e
+
+  unsound-output : (out : List ℕ) → outputOf s out ≡ out
+  unfolding outputOf
+  unsound-output out = rw e
+
+-- ---- the two ways round
+
+-- a table that was loaded was read without refusal
+read-well : (s : Session) (bytes : List ℕ) → loadedOf s bytes .refusal ≡ 0 → readingOf bytes .refusal ≡ 0
+read-well s bytes e = either (ℕ-discrete (readingOf bytes .refusal) 0) (λ z. z) (λ d. absurd (d (rw (loads-not s bytes d) at e)))
+
+pub loaded-writes-back : Loaded-writes-back
+loaded-writes-back s bytes out b e l =
+    let a = reading-accepted bytes (ruled-exactly bytes 0 .0 (read-well s bytes e)) in
+    let q = load-accepts s bytes (treeOf bytes) a in
+    let f = sound-holds 2 (freshOf (treeOf bytes)) (fresh-sound 2 (treeOf bytes) (q .1)) in
+    let w = table-laws.table-writes-back bytes (treeOf bytes) out b a l in
+    rw (q .0) (sound-written (freshOf (treeOf bytes)) f (length out) ∙ w .0, sound-output (freshOf (treeOf bytes)) f out ∙ w .1)
+
+pub written-loads-back : Written-loads-back
+written-loads-back s o out typed z = go (sound 2 s) refl
+  where
+    go : (b : Bool) → sound 2 s ≡ b → loadedOf o (take (writtenOf s (length out) .bytes) (outputOf s out)) ≡ record { refusal = 0; session = freshOf (s .tree) }
+    go true e =
+        rw (sound-written s e (length out), sound-output s e out)
+        (load-accepts o _ (s .tree) (table-laws.table-reads-back (s .tree) out (typed .parents-long) (rw (sound-written s e (length out)) at z)) .0)
+    go false e = let six : _≡_ {A = ℕ} 6 0 = rw (unsound-written s e (length out)) at z in absurd (omega arith)
+
+pub refused-output-kept : Refused-output-kept
+refused-output-kept s out h = go (sound 2 s) refl
+  where
+    go : (b : Bool) → sound 2 s ≡ b → outputOf s out ≡ out
+    go true e = sound-output s e out ∙ table-laws.refused-output-kept (s .tree) out (rw (sound-written s e (length out)) at h)
+    go false e = unsound-output s e out

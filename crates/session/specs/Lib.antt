@@ -1,0 +1,7 @@
+-- What a reader must believe of sessions: what they hold, when they are sound, how they start, their table, and the promises.
+pub mod Holding
+pub mod Soundness
+pub mod Passes
+pub mod Starting
+pub mod Tables
+pub mod Promises

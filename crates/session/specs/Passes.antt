@@ -1,0 +1,47 @@
+-- The tests of a session's entries as they are made: in passes over the places.
+use mathlib.Core.Bool.{Bool, cond, _&&_, _||_}
+use mathlib.Core.List.{List}
+use Prim.Native.Nat.{ℕ, zero, suc, _-_, min, max}
+use lib.Dec.{leb, ltb}
+use lib.IntN.{ℤ, pos}
+use lib.ListN.{getD, set}
+use Rattle.tree.specs.Every.{every}
+use Rattle.tree.specs.Parents.{parent}
+use Rattle.tree.specs.Ranges.{inRange}
+use Rattle.session.specs.Soundness.{within}
+
+-- the entry at i of a pair whose near side has k nodes
+unfoldable pub entry : ℕ → ℕ → ℕ → ℕ → ℕ → ℤ → ℕ → Bool
+entry n i twice k lease cache messages = cond (ltb 0 i && ltb i n) (within 2 k twice lease cache messages) (within 0 0 0 lease cache messages)
+
+-- all entries from child to parent, and from parent to child; ks has the nodes at or below each node
+unfoldable pub near : ℕ → ℕ → List ℕ → List ℕ → List ℤ → List ℕ → Bool
+near n twice ks leases caches counts = every (λ i. entry n i twice (getD ks i 0) (getD leases i 0) (getD caches i (pos 0)) (getD counts i 0)) 256
+
+unfoldable pub far : ℕ → ℕ → List ℕ → List ℕ → List ℤ → List ℕ → Bool
+far n twice ks leases caches counts = every (λ i. entry n i twice (n - getD ks i 0) (getD leases i 0) (getD caches i (pos 0)) (getD counts i 0)) 256
+
+-- all values of nodes that are not there
+unfoldable pub values : ℕ → List ℤ → Bool
+values n vs = every (λ i. ltb i n || inRange 0 (getD vs i (pos 0))) 256
+
+-- what each node keeps of its children 1 to k, from a start on
+unfoldable pub kept : (ℕ → ℕ → ℕ) → List ℕ → List ℕ → List ℕ → ℕ → List ℕ
+kept join ps start told zero = start
+kept join ps start told (suc k) = set (kept join ps start told k) (parent ps (suc k)) (join (getD (kept join ps start told k) (parent ps (suc k)) 0) (getD told (suc k) 0))
+
+-- the largest number of a pair out of each node, and the smallest of a pair into it, of its parent and of its children 1 to k
+abbrev pub highs : List ℕ → List ℕ → List ℕ → ℕ → List ℕ
+highs ps up down k = kept max ps up down k
+
+abbrev pub lows : List ℕ → List ℕ → List ℕ → ℕ → List ℕ
+lows ps up down k = kept min ps (set down 0 255) up k
+
+-- the child k + 1 is in order with its parent's neighbours before it
+abbrev pub orderedAt : List ℕ → List ℕ → List ℕ → ℕ → Bool
+orderedAt ps up down k =
+    leb (getD (highs ps up down k) (parent ps (suc k)) 0) (getD up (suc k) 0)
+    && leb (getD down (suc k) 0) (getD (lows ps up down k) (parent ps (suc k)) 0)
+
+unfoldable pub ordered : ℕ → List ℕ → List ℕ → List ℕ → Bool
+ordered n ps up down = every (orderedAt ps up down) (n - 1)
