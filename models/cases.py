@@ -6,6 +6,8 @@ It shares nothing with the crates but document 01's rules.
 
 import sys
 
+from sessions import LIMIT, PARTS, Session
+
 USABLE = 8 * 65536
 LAST = 2**64 - 1
 KINDS = ("probe", "response", "update", "release")
@@ -243,6 +245,66 @@ def log_read(place, end, data):
         at, count = following, count + 1
 
 
+# ---- sessions
+
+
+def outcome(answers):
+    return "\n  " + " ".join(map(str, answers))
+
+
+def served(session, asked, place, room):
+    """The lines of requests served one by one, up to the first that is refused."""
+    words = ""
+    for ask in asked:
+        *answers, log = session.serve(ask, "0" * 8 * room, place, record)
+        words += outcome(answers) + f" log{shown(undigits(log) + bytes(2500 - room))}"
+        if answers[0]:
+            break
+    return words
+
+
+def summed(*arrays):
+    """A sum over the entries of some arrays, place by place."""
+    total = 0
+    for place in range(256):
+        for array in arrays:
+            total = mixed(total, array[place] % 2**64)
+    return total
+
+
+def session_served(data, place, room, bytes_of_list):
+    try:
+        session = Session(parents_of(data))
+    except Refused as refused:
+        return f"session{shown(data)}: {refused.args[0]}"
+    try:
+        asked, refusal = requests_of(bytes_of_list), 0
+    except Refused as refused:
+        asked, refusal = [], refused.args[0]
+    words = served(session, asked, place, room)
+    values, *pairs = (session.arrays[part] for part in PARTS[2:-1])
+    return f"session{shown(data)}: 0 {refusal}{words}\n  holds {session.accepted} {summed(values)} {summed(*pairs[:3])} {summed(*pairs[3:])}"
+
+
+def session_changed(data, part, place, value, bytes_of_list):
+    session = Session(parents_of(data))
+    words = served(session, requests_of(bytes_of_list), 0, 2423)
+    small = {"count": 2**16, "parents": 2**8, "accepted": 2**32}
+    modulus = small.get(part, {"lease": 2**8, "messages": 2**32}.get(part.split()[-1]))
+    session.change(part, place, value % modulus if modulus else value)
+    sound = session.sound()
+    table_bytes = table_of(session.arrays["parents"][1 : session.count]) if sound else b""
+    words += f" {'yes 0' if sound else 'no 6'} {len(table_bytes)}{shown(table_bytes + bytes(226 - len(table_bytes)))}"
+    log = "0" * 8 * 2423
+    for ask in (("combine", 0), ("write", 0, -1)):
+        again = Session([])
+        again.count, again.accepted, again.arrays = session.count, session.accepted, session.arrays
+        *answers, log = again.serve(ask, log, 0, record)
+        words += outcome(answers)
+    entry = PARTS.index(part) * 65536 + place
+    return f"changed {entry} {encode(value, 64)}:{words}{shown(undigits(log))}"
+
+
 # ---- the cases
 
 
@@ -291,6 +353,26 @@ class Cases:
 
     def read(self, place, end, data):
         self.add("R", log_read(place, end, data), (place, end), data)
+
+    def session(self, parents, asked, place=0, room=2423):
+        data, asked = table_of(parents), list_of(asked)
+        self.add("Q", session_served(data, place, room, asked), (len(data), place, room), data + asked)
+
+    def changed(self, parents, asked, part, at, value):
+        data, asked = table_of(parents), list_of(asked)
+        entry = PARTS.index(part) * 65536 + at
+        self.add("U", session_changed(data, part, at, value, asked), (len(data), entry, encode(value, 64)), data + asked)
+
+    def tree_of(self, count):
+        return [self.draw(child) for child in range(1, count)]
+
+    def asked(self, count, requests, values=2**32):
+        """Requests at random nodes, more writes than combines."""
+        found = []
+        for _ in range(requests):
+            node = self.draw(count)
+            found.append(("write", node, self.draw(values) - values // 2) if self.draw(5) < 3 else ("combine", node))
+        return found
 
 
 def fields(cases):
@@ -400,9 +482,61 @@ def logs(cases):
     cases.read(524270, 524289, bytes(65537))
 
 
+PATH = ([0, 1], [("combine", 0), ("write", 2, 5), ("combine", 0), ("write", 2, 7), ("write", 2, 9), ("combine", 0)])
+STAR = ([0, 0, 0], [("combine", 1), ("write", 2, 4), ("combine", 0), ("write", 3, 1)])
+ORDER = ([0, 0], [("combine", 1), ("combine", 0), ("write", 2, 7), ("write", 2, 9)])
+
+
+def sessions(cases):
+    """Document 01's cases; random trees and lists; rounds; room to the bit; the largest sums and trees."""
+    for parents, asked in (PATH, STAR, ORDER):
+        cases.session(parents, asked)
+    cases.session([0], [("combine", 0), ("write", 1, 3), ("write", 1, -3)] * 20)
+    cases.session([], [("combine", 0), ("write", 0, -(2**31)), ("combine", 0), ("write", 1, 0)])
+    for count in (2, 3, 4, 5, 6, 7, 8, 9, 12, 17, 25, 40):
+        for _ in range(3):
+            cases.session(cases.tree_of(count), cases.asked(count, 25))
+    for place, room in ((0, 19), (0, 18), (1, 19), (0, 0), (152, 19), (153, 19), (LAST, 2423), (13, 2423), (100, 33)):
+        cases.session(*PATH, place, room)
+        cases.session([0, 1], [("write", 2, 5), ("write", 0, 6)], place, room)
+    for node in (2, 3, 4, 255):
+        cases.session(STAR[0], STAR[1] + [("combine", node), ("write", node, 1)])
+    for extreme in (-(2**31), 2**31 - 1):
+        for parents in ([0] * 39, list(range(39)), cases.tree_of(40)):
+            cases.session(parents, [("write", node, extreme) for node in range(40)] + [("combine", 7), ("combine", 39), ("write", 7, 0), ("write", 39, extreme)])
+    for parents in ([0] * 255, list(range(255)), [(i - 1) // 2 for i in range(1, 256)]):
+        cases.session(parents, [("write", 255, -5), ("combine", 0), ("write", 255, 5), ("combine", 128), ("write", 0, 1), ("write", 255, 7)])
+
+
+def changed(cases):
+    """One entry of a session at its limit, one past it, and where it is not used."""
+    parents, asked = [0, 0, 1, 1, 3], [("combine", 4), ("write", 2, 3), ("combine", 1), ("write", 5, -4)]
+    for count in (0, 1, 5, 6, 7, 256, 257, 65535):
+        cases.changed(parents, asked, "count", 0, count)
+    for accepted in (0, 1, 2, 4, LIMIT - 1, LIMIT, LIMIT + 1, 2**32 - 1):
+        cases.changed(parents, asked, "accepted", 0, accepted)
+    for place in (0, 1, 2, 3, 5, 6, 255):
+        for value in (0, 1, 2, 3, 255):
+            cases.changed(parents, asked, "parents", place, value)
+            cases.changed(parents, asked, "up lease", place, value)
+            cases.changed(parents, asked, "down lease", place, value)
+        for value in (0, 1, -(2**31)):
+            cases.changed(parents, asked, "values", place, value)
+        for value in (0, 8, 9, 2**32 - 1):
+            cases.changed(parents, asked, "up messages", place, value)
+            cases.changed(parents, asked, "down messages", place, value)
+        for nodes in (0, 1, 2, 3, 4, 5):
+            for value in (-nodes * 2**31, -nodes * 2**31 - 1, nodes * (2**31 - 1), nodes * (2**31 - 1) + 1):
+                cases.changed(parents, asked, "up cache", place, value)
+                cases.changed(parents, asked, "down cache", place, value)
+    for value in (2**63 - 1, -(2**63)):
+        cases.changed(parents, asked, "up cache", 3, value)
+        cases.changed(parents, asked, "down cache", 3, value)
+
+
 def main():
     cases = Cases()
-    for part in (fields, signs, tables, trees, lists, logs):
+    for part in (fields, signs, tables, trees, lists, logs, sessions, changed):
         part(cases)
     if sys.argv[1:] == ["stdin"]:
         sys.stdout.buffer.write(b"".join(cases.data))

@@ -1,10 +1,12 @@
 // Runs the cases on standard input and prints what comes of each.
 //
 // A case is a letter, the number of its bytes in 3 bytes, three numbers of 8 bytes, and its bytes.
+mod change; // sessions with one entry changed
 mod input; // reading the cases
 mod lists;
 mod logs;
 mod numbers; // fields and what they stand for
+mod sessions;
 mod show; // printing
 mod tables;
 
@@ -54,6 +56,12 @@ fn run(letter: u8, a: u64, b: u64, c: u64, bytes: &mut [u8]) {
     }
     if letter == b'R' {
         return logs::read(a, b, bytes);
+    }
+    if letter == b'Q' {
+        return sessions::serve(a, b, c, bytes);
+    }
+    if letter == b'U' {
+        return sessions::unsound(a, b, c, bytes);
     }
     show::text(b"no such case\n");
 }

@@ -25,6 +25,14 @@ pub fn byte(x: u8) {
     number(wide(x));
 }
 
+pub fn flag(yes: bool) {
+    if yes {
+        text(b" yes");
+    } else {
+        text(b" no");
+    }
+}
+
 // A value in decimal, behind a blank.
 pub fn value(value: i64) {
     signed(fields::encode(value, 64));
