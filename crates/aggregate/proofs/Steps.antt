@@ -145,7 +145,7 @@ module _ {q : View} {f u v : ℕ} {z : ℤ} {t : Trace} where
   visiting {k = k} p h e a =
       record {
         asking = p;
-        other = rw e (turn-inside (q .count) u (p .inside) k h);
+        there = rw e (turn-inside (q .count) u (p .inside) k h);
         beside = rw e (a .beside h);
         fits = rw (a .partly .sums, e) (rw (sofar-next, step-split) at (p .fit .fit f u v (k + 1) (p .inside) (p .come) (omega arith)));
       }

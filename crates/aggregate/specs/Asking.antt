@@ -28,9 +28,9 @@ pub record Asking (q : View) (first next : List ℕ) (u v : ℕ) : Type 0 where
 -- u, come from v, may visit its neighbour w, with a sum so far
 pub record Visiting (q : View) (first next : List ℕ) (f u v w : ℕ) (z : ℤ) : Type 0 where
   pub asking : Asking q first next u v
-  pub other : w < q .count
+  pub there : w < q .count
   pub beside : adjacent (q .parents) w u ≡ true
-  pub fits : SFits w64 (stepIf sum q (Rattle.tree.specs.Sides.other (q .parents) u v w) (ask sum q f) u w (said z []) .sum)
+  pub fits : SFits w64 (stepIf sum q (other (q .parents) u v w) (ask sum q f) u w (said z []) .sum)
 
 -- what the walk at u, come from v, leaves: its sum, and its messages after those of t
 pub record Told (q : View) (f u v : ℕ) (t : Trace) (z : ℤ) (t′ : Trace) : Type 0 where
@@ -39,5 +39,5 @@ pub record Told (q : View) (f u v : ℕ) (t : Trace) (z : ℤ) (t′ : Trace) : 
 
 -- what the visit of w adds to a sum and to t
 pub record Visited (q : View) (f u v w : ℕ) (z : ℤ) (t : Trace) (z′ : ℤ) (t′ : Trace) : Type 0 where
-  pub sums : z′ ≡ stepIf sum q (Rattle.tree.specs.Sides.other (q .parents) u v w) (ask sum q f) u w (said z []) .sum
-  pub logs : t′ ≡ pushedAll (stepIf sum q (Rattle.tree.specs.Sides.other (q .parents) u v w) (ask sum q f) u w (said z []) .log) t
+  pub sums : z′ ≡ stepIf sum q (other (q .parents) u v w) (ask sum q f) u w (said z []) .sum
+  pub logs : t′ ≡ pushedAll (stepIf sum q (other (q .parents) u v w) (ask sum q f) u w (said z []) .log) t

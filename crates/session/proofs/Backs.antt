@@ -1,22 +1,26 @@
--- The table of a session: loaded and written back, written and loaded back, and the output kept where it is refused.
-use mathlib.Core.Path.{_≡_, refl, _∙_}
+-- The table of a session: what its writer answers, loaded and written back, written and loaded back, and the output kept where it is refused.
+use mathlib.Core.Path.{_≡_, refl, subst, _∙_}
 use mathlib.Core.Bool.{Bool, true, false}
 use mathlib.Core.List.{List}
 use Prim.Native.Nat.{ℕ}
 use native.Mathlib.Decide.{ℕ-discrete}
 use native.Mathlib.Omega.{arith}
 use lib.ListN.{length, take}
-use Rattle.tree.proofs.Cases.{either}
+use Rattle.tree.specs.Parents.{inRule}
+use Rattle.tree.proofs.Cases.{either, lt-or-le}
+use Rattle.tree.proofs.InRule.{in-rule-exactly}
+use Rattle.table.specs.Layout.{size}
 use Rattle.table.specs.Reading.{treeOf, readingOf}
 use Rattle.table.specs.Writing as table
+use Rattle.table.specs.declared.Written.{Written}
 use Rattle.table.proofs.RoundTrip as table-laws
 use Rattle.table.proofs.Verdicts.{ruled-exactly, reading-accepted}
-use Rattle.session.specs.Promises.{Loaded-writes-back, Written-loads-back, Refused-output-kept}
+use Rattle.session.specs.Promises.{Written-exactly, Loaded-writes-back, Written-loads-back, Refused-output-kept}
 use Rattle.session.specs.Soundness.{sound}
 use Rattle.session.specs.Starting.{freshOf, loadedOf}
-use Rattle.session.specs.Tables.{writtenOf, outputOf}
+use Rattle.session.specs.Tables.{Answered, six, nine, done, writtenOf, outputOf}
 use Rattle.session.specs.declared.Session.{Session}
-use Rattle.session.proofs.Soundly.{sound-holds}
+use Rattle.session.proofs.Soundly.{sound-exactly, sound-holds}
 use Rattle.session.proofs.Starts.{fresh-sound, loads-not, load-accepts}
 
 -- ---- a sound session's table is that of its tree, and an unsound one has none
@@ -38,6 +42,33 @@ module _ (s : Session) (e : sound 2 s ≡ false) where
   unsound-output : (out : List ℕ) → outputOf s out ≡ out
   unfolding outputOf
   unsound-output out = rw e
+
+-- ---- what is answered
+
+module _ (s : Session) (room : ℕ) where
+  -- the tree of a sound session is in rule
+  in-rule : sound 2 s ≡ true → inRule (s .tree .parents) (s .tree .count) ≡ true
+  in-rule e = in-rule-exactly (s .tree .parents) (s .tree .count) .1 (sound-exactly 2 s .0 e .tree-in-rule)
+
+  of-tree : (w : Written) → sound 2 s ≡ true → table.Answered (s .tree) room w → writtenOf s room ≡ w
+  of-tree w e a = sound-written s e room ∙ table-laws.written-exactly (s .tree) room w .1 a
+
+  is : (w : Written) → Answered s room w → writtenOf s room ≡ w
+  is w (six e) = unsound-written s e room
+  is w (nine e l) = of-tree w e (table.nine (in-rule e) l)
+  is w (done e l) = of-tree w e (table.done (in-rule e) l)
+
+  answered : Answered s room (writtenOf s room)
+  answered = go (sound 2 s) refl
+    where
+      go : (b : Bool) → sound 2 s ≡ b → Answered s room (writtenOf s room)
+      go false e = rw (unsound-written s e room) (six e)
+      go true e = lt-or-le room (size (s .tree .count))
+          (λ l. rw (of-tree _ e (table.nine (in-rule e) l)) (nine e l))
+          (λ l. rw (of-tree _ e (table.done (in-rule e) l)) (done e l))
+
+pub written-exactly : Written-exactly
+written-exactly s room w = (λ e. subst (Answered s room) e (answered s room), is s room w)
 
 -- ---- the two ways round
 

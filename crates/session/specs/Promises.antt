@@ -7,12 +7,13 @@ use Prim.Native.Nat.{ℕ, _≤_, _<_}
 use lib.ListN.{length, take, drop}
 use Rattle.fields.specs.Bits.{Bytes}
 use Rattle.table.specs.Reading.{readingOf, accepted}
+use Rattle.table.specs.declared.Written.{Written}
 use Rattle.tree.specs.Parents.{InRule}
 use Rattle.tree.specs.declared.Tree.{Tree}
 use Rattle.session.specs.Holding.{Typed}
 use Rattle.session.specs.Soundness.{Sound, sound}
 use Rattle.session.specs.Starting.{freshOf, zeros, startedOf, loadedOf}
-use Rattle.session.specs.Tables.{writtenOf, outputOf}
+use Rattle.session.specs.Tables.{Answered, writtenOf, outputOf}
 use Rattle.session.specs.declared.Session.{Session}
 
 -- The test of a session says what it should.
@@ -48,6 +49,10 @@ abbrev pub Written-loads-back : Type 0
 Written-loads-back = (s o : Session) (out : List ℕ) → Typed s → writtenOf s (length out) .refusal ≡ 0
     → loadedOf o (take (writtenOf s (length out) .bytes) (outputOf s out)) ≡ record { refusal = 0; session = freshOf (s .tree) }
 
--- A refused table writer changes nothing.
+-- The table writer refuses exactly as document 01 says,
+abbrev pub Written-exactly : Type 0
+Written-exactly = (s : Session) (room : ℕ) (w : Written) → (writtenOf s room ≡ w) ↔ Answered s room w
+
+-- and changes nothing where it refuses.
 abbrev pub Refused-output-kept : Type 0
 Refused-output-kept = (s : Session) (out : List ℕ) → 0 < writtenOf s (length out) .refusal → outputOf s out ≡ out

@@ -163,7 +163,7 @@ visit-push-requires t c κs = search needs
 visit-ask-requires : (t : ℕ) → visit-lts.Need-ask-requires (visit-calls t) (visit-at t) visit.Post
 visit-ask-requires t c κs =
     let h = c .before .before .before .before .before .before .before .before .pre .1 in
-    (omega arith, record { room = h .asking .room; inside = h .other; come = h .asking .inside; fit = h .asking .fit; linked = h .asking .linked })
+    (omega arith, record { room = h .asking .room; inside = h .there; come = h .asking .inside; fit = h .asking .fit; linked = h .asking .linked })
 
 visit-byte-requires-3 : (t : ℕ) → visit-lts.Need-byte-requires-3 (visit-calls t) (visit-at t) visit.Post
 visit-byte-requires-3 t c κs = search needs
