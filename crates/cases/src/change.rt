@@ -10,110 +10,49 @@ use tree::Tree;
 pub fn entry(session: Session, entry: u64, value: u64) -> Session {
     let array = entry / 65536;
     let i = (entry % 256) as usize;
+    let mut session = session;
     if array < 2 {
-        return treed(session, changed(session.tree, array, i, value));
+        session.tree = tree(session.tree, array, i, value);
+        return session;
     }
     if array == 2 {
-        return valued(session, i, value);
+        session.values[i] = signed32(value);
+        return session;
     }
     if array < 6 {
-        let up = pairs(session.up, array - 3, i, value);
-        return paired(session, up, session.down);
+        session.up = pairs(session.up, array - 3, i, value);
+        return session;
     }
     if array < 9 {
-        let down = pairs(session.down, array - 6, i, value);
-        return paired(session, session.up, down);
+        session.down = pairs(session.down, array - 6, i, value);
+        return session;
     }
-    accepted(session, (value % 4294967296) as u32)
+    session.accepted = (value % 4294967296) as u32;
+    session
 }
 
-fn changed(tree: Tree, array: u64, i: usize, value: u64) -> Tree {
-    let mut parents = tree.parents;
+fn tree(tree: Tree, array: u64, i: usize, value: u64) -> Tree {
+    let mut tree = tree;
     if array == 0 {
-        return Tree {
-            count: (value % 65536) as u16,
-            parents,
-        };
+        tree.count = (value % 65536) as u16;
+        return tree;
     }
-    parents[i % 256] = (value % 256) as u8;
-    Tree {
-        count: tree.count,
-        parents,
-    }
+    tree.parents[i % 256] = (value % 256) as u8;
+    tree
 }
 
 fn pairs(pairs: Pairs, array: u64, i: usize, value: u64) -> Pairs {
-    let mut lease = pairs.lease;
-    let mut cache = pairs.cache;
-    let mut messages = pairs.messages;
+    let mut pairs = pairs;
     if array == 0 {
-        lease[i % 256] = (value % 256) as u8;
-    } else {
-        if array == 1 {
-            cache[i % 256] = signed(value);
-        } else {
-            messages[i % 256] = (value % 4294967296) as u32;
-        }
+        pairs.lease[i % 256] = (value % 256) as u8;
+        return pairs;
     }
-    Pairs {
-        lease,
-        cache,
-        messages,
+    if array == 1 {
+        pairs.cache[i % 256] = signed(value);
+        return pairs;
     }
-}
-
-fn treed(session: Session, tree: Tree) -> Session {
-    let values = session.values;
-    let up = session.up;
-    let down = session.down;
-    Session {
-        tree,
-        values,
-        up,
-        down,
-        accepted: session.accepted,
-    }
-}
-
-fn valued(session: Session, i: usize, value: u64) -> Session {
-    let tree = session.tree;
-    let up = session.up;
-    let down = session.down;
-    let mut values = session.values;
-    values[i % 256] = signed32(value);
-    Session {
-        tree,
-        values,
-        up,
-        down,
-        accepted: session.accepted,
-    }
-}
-
-fn paired(session: Session, up: Pairs, down: Pairs) -> Session {
-    let tree = session.tree;
-    let values = session.values;
-    Session {
-        tree,
-        values,
-        up,
-        down,
-        accepted: session.accepted,
-    }
-}
-
-fn accepted(session: Session, accepted: u32) -> Session {
-    let tree = session.tree;
-    let values = session.values;
-    let up = session.up;
-    let down = session.down;
-    Session {
-        tree,
-        values,
-        up,
-        down,
-        accepted,
-    }
+    pairs.messages[i % 256] = (value % 4294967296) as u32;
+    pairs
 }
 
 // The value that 64 bits stand for.

@@ -1,0 +1,59 @@
+-- `repeat::sum` is safe and ends.
+use mathlib.Core.Path.{_≡_}
+use lib.ListN.{length}
+use borrow.Author.Needs.{needs}
+use Rattle.bench.proofs.repeat.sum.Statement.{statement}
+use Rattle.bench.proofs.repeat.sum.Tie as tie
+
+abbrev Inv-loop : tie.InvT-loop
+Inv-loop letter times log₀ x session sum₀ left₀ log sum left = length log ≡ length log₀
+
+abbrev μ-loop : tie.MeasureT-loop
+μ-loop letter times log₀ x session sum₀ left₀ log sum left = left
+
+last-requires : tie.Need-last-requires Inv-loop μ-loop
+last-requires c κs = search needs
+
+before-requires : tie.Need-before-requires Inv-loop μ-loop
+before-requires c κs = search needs
+
+loop-holds : tie.Need-loop-holds Inv-loop μ-loop
+loop-holds c = search needs
+
+sub-left : tie.Need-sub-left Inv-loop μ-loop
+sub-left c = search needs
+
+after-requires : tie.Need-after-requires Inv-loop μ-loop
+after-requires c κs = search needs
+
+mixed-requires : tie.Need-mixed-requires Inv-loop μ-loop
+mixed-requires c κs = search needs
+
+loop-less : tie.Need-loop-less Inv-loop μ-loop
+loop-less c = search needs
+
+loop-again : tie.Need-loop-again Inv-loop μ-loop
+loop-again c = search needs
+
+same-length : tie.Need-same-length Inv-loop μ-loop
+same-length c = search needs
+
+returns : tie.Need-returns Inv-loop μ-loop
+returns c = search needs
+
+pub sum-spec : {M : Type 1} → statement M
+sum-spec =
+    tie.close
+    (tie.spec
+    Inv-loop
+    μ-loop
+    last-requires
+    before-requires
+    loop-holds
+    sub-left
+    after-requires
+    mixed-requires
+    loop-less
+    loop-again
+    same-length
+    returns)
