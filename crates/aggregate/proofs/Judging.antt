@@ -1,11 +1,11 @@
--- The refusals step by step: those before a request says anything, then the room for its records.
+-- The refusals step by step: those of the walk, those before the room is known, then the room for the records.
 use mathlib.Core.Path.{_≡_, refl}
 use mathlib.Core.Bool.{Bool, true, false, cond}
 use mathlib.Core.Logic.{_≢_}
 use mathlib.Core.List.{List}
 use Prim.Native.Nat.{ℕ, _+_, _≤_, _<_}
 use native.Mathlib.Omega.{arith}
-use lib.Dec.{leb, ltb}
+use lib.Dec.{eqb, leb, ltb}
 use borrow.Author.Tests.{lt-ltb, ltb-true, leb-true, leb-false, lt-leb}
 use Rattle.fields.specs.Usable.{usableBits}
 use Rattle.messages.specs.Writing.{bitsOfAll}
@@ -14,9 +14,10 @@ use Rattle.session.specs.Soundness.{limit, sound, Sound}
 use Rattle.session.specs.declared.Session.{Session}
 use Rattle.session.proofs.Soundly.{sound-exactly}
 use Rattle.mechanism.specs.Refusals.{allFit, room, refusalOf}
+use Rattle.walk.specs.Walking.{admits}
 use Rattle.aggregate.specs.Serving.{judgedOf}
 
--- a request at x may say what it has to say
+-- a request at x may be logged, where there is room
 pub record Ready (s : Session) (x len place : ℕ) : Type 0 where
   pub holds : Sound 2 s
   pub inside : x < s .tree .count
@@ -25,7 +26,7 @@ pub record Ready (s : Session) (x len place : ℕ) : Type 0 where
 
 -- the two chains of tests
 judge : Bool → Bool → Bool → Bool → ℕ
-judge a b c d = cond a (cond b (cond c (cond d 0 9) 8) 7) 6
+judge a b c d = cond (eqb (cond a (cond b 0 7) 6) 0) (cond c (cond d 0 9) 8) (cond a (cond b 0 7) 6)
 
 refuse : Bool → Bool → Bool → Bool → Bool → ℕ
 refuse a b c d e = cond a (cond b (cond c (cond d (cond e 0 11) 9) 8) 7) 6
@@ -47,8 +48,8 @@ first-failed true true true true e f h n = absurd (n refl)
 first-failed true true true false e f h n = rw (h refl)
 
 module _ (s : Session) (x len place : ℕ) where
-  pub ready : judgedOf s x len place ≡ 0 → Ready s x len place
-  unfolding judgedOf judge
+  pub ready : judgedOf (admits s x) (s .accepted) len place ≡ 0 → Ready s x len place
+  unfolding admits judgedOf judge
   ready e =
       let t = all-passed (sound 2 s) (ltb x (s .tree .count)) (ltb (s .accepted) limit) (leb place (usableBits len)) e in
       record {
@@ -58,10 +59,14 @@ module _ (s : Session) (x len place : ℕ) where
         placed = leb-true place (usableBits len) (t .3);
       }
 
+  pub admitted : Ready s x len place → admits s x ≡ 0
+  unfolding admits
+  admitted r = rw (sound-exactly 2 s .1 (r .holds), lt-ltb x (s .tree .count) (r .inside))
+
   module _ (ms : List Message) where
     -- a refusal before is the refusal
-    pub refused-before : judgedOf s x len place ≢ 0 → refusalOf 2 s x len place ms ≡ judgedOf s x len place
-    unfolding judgedOf refusalOf judge refuse
+    pub refused-before : judgedOf (admits s x) (s .accepted) len place ≢ 0 → refusalOf 2 s x len place ms ≡ judgedOf (admits s x) (s .accepted) len place
+    unfolding admits judgedOf refusalOf judge refuse
     refused-before = first-failed (sound 2 s) (ltb x (s .tree .count)) (ltb (s .accepted) limit) (leb place (usableBits len)) (room len place ms) (allFit ms)
         (λ e. lt-leb (place + bitsOfAll ms) (usableBits len) (omega (arith, leb-false place (usableBits len) e)))
 

@@ -1,20 +1,4 @@
 -- The laws of the two requests as functions, by what they say.
-pub mod Finding
-pub mod Linking
-pub mod Neighbours
-pub mod Coding
-pub mod Traced
-pub mod Pushing
-pub mod Steps
-pub mod Fitting
-pub mod Ways
-pub mod Passes
-pub mod Halves
-pub mod Split
-pub mod Reaching
-pub mod Coming
-pub mod Sends
-pub mod Starting
 pub mod Hitting
 pub mod Paid
 pub mod Raising

@@ -15,7 +15,7 @@ use Rattle.tree.specs.Sides.{below, pointsTo}
 use Rattle.tree.proofs.Cases.{order, lt-or-le}
 use Rattle.mechanism.specs.Applying.{each}
 use Rattle.aggregate.specs.Afters.{Climbing, upRaised, downRaised}
-use Rattle.aggregate.proofs.Ways.{Ahead, ahead-none, on-way, off-way, ahead-on, ahead-off}
+use Rattle.walk.proofs.Ways.{Ahead, ahead-none, on-way, off-way, ahead-on, ahead-off}
 
 -- ---- one list of numbers
 

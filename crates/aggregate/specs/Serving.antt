@@ -10,7 +10,7 @@ use Rattle.tree.specs.Operation.{sum}
 use Rattle.messages.specs.Writing.{logged, bitsOfAll}
 use Rattle.messages.specs.declared.Message.{Message}
 use Rattle.requests.specs.declared.Request.{Request}
-use Rattle.session.specs.Soundness.{limit, sound}
+use Rattle.session.specs.Soundness.{limit}
 use Rattle.session.specs.declared.Session.{Session}
 use Rattle.mechanism.specs.Requests.{nodeOf, says, after}
 use Rattle.mechanism.specs.Refusals.{room, refusalOf}
@@ -51,6 +51,6 @@ outcomeOf len place z ms =
 unfoldable pub loggedOf : List ℕ → ℕ → List Message → List ℕ
 loggedOf log place ms = cond (room (length log) place ms) (logged log place ms) log
 
--- the refusal of a request at x before it says anything
-unfoldable pub judgedOf : Session → ℕ → ℕ → ℕ → ℕ
-judgedOf s x len place = cond (sound 2 s) (cond (ltb x (s .tree .count)) (cond (ltb (s .accepted) limit) (cond (leb place (usableBits len)) 0 9) 8) 7) 6
+-- the refusal of a request before its room is known: n, that of its walk, then 8, then 9 for a place past the usable log
+unfoldable pub judgedOf : ℕ → ℕ → ℕ → ℕ → ℕ
+judgedOf n count len place = cond (eqb n 0) (cond (ltb count limit) (cond (leb place (usableBits len)) 0 9) 8) n

@@ -1,12 +1,10 @@
 // What messages make of a session: each counts at its pair, and becomes its cache.
-use crate::links;
-use crate::trace;
 ghost use mathlib.Core.Path.{_≡_};
 ghost use Prim.Native.Nat.{_-_, _<_, _≤_};
 ghost use Rattle.session.specs.Soundness.{Sound, limit};
 ghost use Rattle.mechanism.specs.Applying as spec;
 ghost use Rattle.mechanism.specs.Requests.{linksOf, relinked};
-ghost use Rattle.aggregate.specs.Traces.{messagesIn};
+ghost use Rattle.trace.specs.Traces.{messagesOf};
 ghost use Rattle.aggregate.specs.Afters.{pairsOf, linksBy, Counts};
 use messages::Message;
 use session::Pairs;
@@ -15,7 +13,7 @@ use session::Session;
 // The session after the first len messages, and one more request accepted.
 pub fn applied(session: Session, trace: &[u64; 510], len: usize) -> Session
     requires { ⌜ (len ≤ 510) × (Sound 2 session × (session .accepted < limit)) ⌝ }
-    ensures { λ r. ⌜ r ≡ relinked session (spec.applied (messagesIn (now (trace .entry)) len) (linksOf session)) ⌝ }
+    ensures { λ r. ⌜ r ≡ relinked session (spec.applied (messagesOf (now (trace .entry)) len) (linksOf session)) ⌝ }
 {
     let tree = session.tree;
     let values = session.values;
@@ -68,7 +66,7 @@ fn apply(
     requires { ⌜ (len ≤ 510) × Counts 2097152 (linksBy (now «up_lease») (now «up_cache») (now «up_messages») (now «down_lease») (now «down_cache») (now «down_messages»)) ⌝ }
     ensures { λ _.
         ⌜ linksBy (now («up_lease» .exit)) (now («up_cache» .exit)) (now («up_messages» .exit)) (now («down_lease» .exit)) (now («down_cache» .exit)) (now («down_messages» .exit))
-        ≡ spec.applied (messagesIn (now (trace .entry)) len) (linksBy (now («up_lease» .entry)) (now («up_cache» .entry)) (now («up_messages» .entry)) (now («down_lease» .entry)) (now («down_cache» .entry)) (now («down_messages» .entry))) ⌝ }
+        ≡ spec.applied (messagesOf (now (trace .entry)) len) (linksBy (now («up_lease» .entry)) (now («up_cache» .entry)) (now («up_messages» .entry)) (now («down_lease» .entry)) (now («down_cache» .entry)) (now («down_messages» .entry))) ⌝ }
 {
     let mut k: usize = 0;
     while k < len {
@@ -120,10 +118,10 @@ fn from(message: Message) -> usize
     ensures { λ r. ⌜ (r ≡ spec.fromOf message) × (r < 256) ⌝ }
 {
     match message {
-        Message::Probe(_, b) => links::node(b),
-        Message::Response(a, _, _) => links::node(a),
-        Message::Update(a, _, _) => links::node(a),
-        Message::Release(_, b) => links::node(b),
+        Message::Probe(_, b) => node(b),
+        Message::Response(a, _, _) => node(a),
+        Message::Update(a, _, _) => node(a),
+        Message::Release(_, b) => node(b),
     }
 }
 
@@ -131,9 +129,16 @@ fn to(message: Message) -> usize
     ensures { λ r. ⌜ (r ≡ spec.toOf message) × (r < 256) ⌝ }
 {
     match message {
-        Message::Probe(a, _) => links::node(a),
-        Message::Response(_, b, _) => links::node(b),
-        Message::Update(_, b, _) => links::node(b),
-        Message::Release(a, _) => links::node(a),
+        Message::Probe(a, _) => node(a),
+        Message::Response(_, b, _) => node(b),
+        Message::Update(_, b, _) => node(b),
+        Message::Release(a, _) => node(a),
     }
+}
+
+// A node's number as an index.
+pub fn node(x: u8) -> usize
+    ensures { λ r. ⌜ (r ≡ x) × (r < 256) ⌝ }
+{
+    x as usize
 }

@@ -3,14 +3,8 @@
 // Every function takes whatever it is handed and has one outcome. A refused call answers its number
 // and zeros, and leaves the session and the log as they were.
 mod apply; // what messages make of a session
-mod ask; // the walk of a combine
-mod later; // what comes after each neighbour
-mod links; // each node's neighbours, one after the other
 mod raise; // a combine raises every pair that points to its node
-mod reads; // what the walks read of a session
-mod serve; // what both requests do before and after their walk
-mod spread; // the walk of a write
-mod trace; // the messages of a request, before they are logged
+mod serve; // what both requests do after their walk
 
 ghost use mathlib.Core.Path.{_≡_};
 ghost use lib.ListN.{length};
@@ -41,19 +35,19 @@ pub struct Served {
 pub fn combine(session: Session, x: usize, log: &mut [u8], place: usize) -> Served
     ensures { λ r. ⌜ (r ≡ servedOf session (Combine x) (length (now (log .entry))) place) × (now (log .exit) ≡ logOf session (Combine x) (now (log .entry)) place) ⌝ }
 {
-    let refusal = serve::judged(session, x, log.len(), place);
+    let mut trace = [0u64; 510];
+    let walked = walk::combine(session, x, &mut trace);
+    let refusal = serve::judged(walked.refusal, session.accepted, log.len(), place);
     if refusal != 0 {
         return serve::refused(refusal, session);
     }
-    let mut trace = [0u64; 510];
-    let asked = ask::from(session, x, &mut trace);
-    let outcome = serve::logged(log, place, asked.sum, &trace, asked.len);
+    let outcome = serve::logged(log, place, walked.sum, &trace, walked.len);
     if outcome.refusal != 0 {
         return serve::refused(9, session);
     }
     Served {
         outcome,
-        session: raise::raised(apply::applied(session, &trace, asked.len), x),
+        session: raise::raised(apply::applied(session, &trace, walked.len), x),
     }
 }
 
@@ -61,19 +55,18 @@ pub fn combine(session: Session, x: usize, log: &mut [u8], place: usize) -> Serv
 pub fn write(session: Session, x: usize, value: i32, log: &mut [u8], place: usize) -> Served
     ensures { λ r. ⌜ (r ≡ servedOf session (Write x value) (length (now (log .entry))) place) × (now (log .exit) ≡ logOf session (Write x value) (now (log .entry)) place) ⌝ }
 {
-    let refusal = serve::judged(session, x, log.len(), place);
+    let mut trace = [0u64; 510];
+    let walked = walk::write(session, x, value, &mut trace);
+    let refusal = serve::judged(walked.refusal, session.accepted, log.len(), place);
     if refusal != 0 {
         return serve::refused(refusal, session);
     }
-    let mut trace = [0u64; 510];
-    let valued = serve::valued(session, x, value);
-    let len = spread::from(valued, x, &mut trace);
-    let outcome = serve::logged(log, place, 0, &trace, len);
+    let outcome = serve::logged(log, place, walked.sum, &trace, walked.len);
     if outcome.refusal != 0 {
         return serve::refused(9, session);
     }
     Served {
         outcome,
-        session: apply::applied(valued, &trace, len),
+        session: apply::applied(serve::valued(session, x, value), &trace, walked.len),
     }
 }

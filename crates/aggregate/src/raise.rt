@@ -1,5 +1,5 @@
 // A combine raises every pair that points to its node.
-use crate::links;
+use crate::apply;
 ghost use mathlib.Core.Path.{_≡_};
 ghost use Prim.Native.Nat.{_<_};
 ghost use Rattle.tree.specs.Parents.{InRule};
@@ -59,7 +59,7 @@ fn raise(count: usize, parents: &[u8; 256], x: usize, up: &mut [u8; 256], down: 
         i -= 1;
         if i == at {
             down[i] = Rule::BREAK;
-            at = links::node(parents[i]);
+            at = apply::node(parents[i]);
         } else {
             up[i] = Rule::BREAK;
         }

@@ -1,7 +1,6 @@
-// What both requests do before and after their walk.
+// What both requests do after their walk.
 use crate::Outcome;
 use crate::Served;
-use crate::trace;
 ghost use mathlib.Core.Path.{_≡_};
 ghost use mathlib.Core.Bool.{true};
 ghost use Prim.Native.Nat.{_<_, _≤_};
@@ -9,21 +8,18 @@ ghost use lib.ListN.{length};
 ghost use Rattle.fields.specs.Usable.{usableBits};
 ghost use Rattle.mechanism.specs.Refusals.{allFit};
 ghost use Rattle.mechanism.specs.Requests.{valued as valuedBy};
-ghost use Rattle.aggregate.specs.Traces.{messagesIn};
+ghost use Rattle.trace.specs.Traces.{messagesOf};
 ghost use Rattle.aggregate.specs.Serving as spec;
 use session::Session;
 
-// The refusal of a request at x before it says anything, 0 for none.
-pub fn judged(session: Session, x: usize, len: usize, place: usize) -> u8
-    ensures { λ r. ⌜ r ≡ spec.judgedOf session x len place ⌝ }
+// The refusal of a request before its room is known, 0 for none: that of its walk comes first.
+pub fn judged(refusal: u8, accepted: u32, len: usize, place: usize) -> u8
+    ensures { λ r. ⌜ r ≡ spec.judgedOf refusal accepted len place ⌝ }
 {
-    if !session.is_sound() {
-        return 6;
+    if refusal != 0 {
+        return refusal;
     }
-    if session.tree.count as usize <= x {
-        return 7;
-    }
-    if 1048576 <= session.accepted {
+    if 1048576 <= accepted {
         return 8;
     }
     if fields::usable_bits(len) < place {
@@ -49,8 +45,8 @@ pub fn refused(refusal: u8, session: Session) -> Served
 
 // Logs the messages, if there is room for all of them.
 pub fn logged(log: &mut [u8], place: usize, answer: i64, trace: &[u64; 510], len: usize) -> Outcome
-    requires { ⌜ ((len ≤ 510) × (place ≤ usableBits (length (now log)))) × (allFit (messagesIn (now trace) len) ≡ true) ⌝ }
-    ensures { λ r. ⌜ (r ≡ spec.outcomeOf (length (now (log .entry))) place answer (messagesIn (now (trace .entry)) len)) × (now (log .exit) ≡ spec.loggedOf (now (log .entry)) place (messagesIn (now (trace .entry)) len)) ⌝ }
+    requires { ⌜ ((len ≤ 510) × (place ≤ usableBits (length (now log)))) × (allFit (messagesOf (now trace) len) ≡ true) ⌝ }
+    ensures { λ r. ⌜ (r ≡ spec.outcomeOf (length (now (log .entry))) place answer (messagesOf (now (trace .entry)) len)) × (now (log .exit) ≡ spec.loggedOf (now (log .entry)) place (messagesOf (now (trace .entry)) len)) ⌝ }
 {
     if fields::usable_bits(log.len()) - place < trace::bits(trace, len) {
         return Outcome {
@@ -74,16 +70,7 @@ pub fn valued(session: Session, x: usize, value: i32) -> Session
     requires { ⌜ x < 256 ⌝ }
     ensures { λ r. ⌜ r ≡ valuedBy session x value ⌝ }
 {
-    let tree = session.tree;
-    let up = session.up;
-    let down = session.down;
-    let mut values = session.values;
-    values[x] = value;
-    Session {
-        tree,
-        values,
-        up,
-        down,
-        accepted: session.accepted,
-    }
+    let mut session = session;
+    session.values[x] = value;
+    session
 }

@@ -1,58 +1,69 @@
--- `combine` meets its contract: it is refused first, or the walk is made, and then its messages are logged and applied.
-use mathlib.Core.List.{List}
+-- `combine` meets its contract: the walk is made, and unless it is refused its messages are logged and applied.
+use mathlib.Core.Path.{_≡_, ap, ap₂, _∙_}
 use Prim.Native.Nat.{ℕ}
-use mathlib.Core.Path.{_≡_, sym, ap, ap₂, _∙_}
-use native.Mathlib.Omega.{arith}
-use lib.ListN.{length, length-replicate}
+use lib.ListN.{length, replicate, length-replicate}
 use borrow.Author.Needs.{needs}
 use Rattle.tree.specs.Operation.{sum}
-use Rattle.messages.specs.declared.Message.{Message}
-use Rattle.requests.specs.declared.Request.the-variants.{Combine}
 use Rattle.messages.proofs.Parts.{handed-on}
+use Rattle.requests.specs.declared.Request.{Request}
+use Rattle.requests.specs.declared.Request.the-variants.{Combine}
 use Rattle.session.specs.declared.Session.{Session}
 use Rattle.session.proofs.Typing.{typed}
-use Rattle.mechanism.specs.Requests.{combines}
+use Rattle.mechanism.specs.Requests.{says}
 use Rattle.mechanism.specs.Refusals.{allFit}
+use Rattle.walk.specs.Walking.{walkedOf, tracedOf}
 use Rattle.aggregate.specs.Serving.{outcomeOf, loggedOf}
-use Rattle.aggregate.specs.Traces.{messagesIn}
-use Rattle.aggregate.proofs.Traced.{trace-holds}
-use Rattle.aggregate.proofs.Judging.{Ready, ready}
-use Rattle.aggregate.proofs.Ending.{Spoken, spoken, ends-early, ends-full, ends-well, combined}
+use Rattle.aggregate.proofs.Judging.{Ready}
+use Rattle.aggregate.proofs.Ending.{Spoken, spoken, ends-early, goes-on, ends-full, ends-well, combined}
 use Rattle.aggregate.proofs.combine.Statement.{statement}
 use Rattle.aggregate.proofs.combine.Tie as tie
 
--- past the tests: the request may say what it has to say
-module _ (t : tie.After-trace) where
+-- the request
+abbrev asked : tie.Start → Request
+asked s = Combine (s .args .x)
+
+-- what the walk answers and leaves
+module _ (w : tie.After-combine) where
   abbrev start : tie.Start
-  start = t .before .before .before .before
+  start = w .before .before .before
 
-  may : Ready (start .args .session) (start .args .x) (length (start .args .log .now)) (start .args .place)
-  may = ready (start .args .session) (start .args .x) (length (start .args .log .now)) (start .args .place) (sym (t .before .before .judged .ensures) ∙ t .before .if1 .left)
+  walks : (w .combine .result ≡ walkedOf (start .args .session) (asked start) (replicate 510 0)) × (w .combine .last .1 .1 .0 ≡ tracedOf (start .args .session) (asked start) (replicate 510 0))
+  walks = (w .combine .ensures)
 
-  says-fit : Spoken (start .args .session) (Combine (start .args .x))
-  says-fit = spoken (start .args .session) (Combine (start .args .x)) (typed (start .args .session) _ (start .good .0)) tt may
+-- past the tests
+module _ (e : tie.Else1) where
+  abbrev walk : tie.After-combine
+  walk = e .before .before
 
--- what the trace holds
-module _ (f : tie.After-from) where
-  abbrev said : List Message
-  said = combines sum (start (f .before) .args .session) (start (f .before) .args .x) .log
+  abbrev began : tie.Start
+  began = start walk
 
-  held : (f .from .result .len ≡ length said) × (messagesIn (f .from .last .1 .1 .0) (f .from .result .len) ≡ said)
-  held = let w = says-fit (f .before) in trace-holds said _ _ _ (w .sized) (w .few) (length-replicate {A = ℕ} 510 0) (f .from .ensures .1)
+  may : Ready (began .args .session) (began .args .x) (length (began .args .log .now)) (began .args .place)
+  may = goes-on (began .args .session) (asked began) (began .args .log .now) (began .args .place) _ _ (walks walk .0) _ (e .before .judged .ensures) (e .if1 .left)
+
+  said : Spoken (began .args .session) (asked began) (walk .combine .result) (walk .combine .last .1 .1 .0)
+  said =
+      spoken (began .args .session) (asked began) _ (replicate 510 0) _ (typed (began .args .session) _ (began .good .0)) tt may
+      (length-replicate {A = ℕ} 510 0) (walks walk .0) (walks walk .1)
 
 -- what was answered and logged
 module _ (l : tie.After-logged) where
-  abbrev from-there : tie.After-from
-  from-there = l .before .before .before .before
+  abbrev there : tie.Else1
+  there = l .before .before .before .before
 
-  told : l .logged .result ≡ outcomeOf (length (start (from-there .before) .args .log .now)) (start (from-there .before) .args .place) (combines sum (start (from-there .before) .args .session) (start (from-there .before) .args .x) .sum) (said from-there)
+  abbrev first : tie.Start
+  first = began there
+
+  told : l .logged .result ≡ outcomeOf (length (first .args .log .now)) (first .args .place) (says sum (first .args .session) (asked first) .sum) (says sum (first .args .session) (asked first) .log)
   told =
       l .logged .ensures .0
-      ∙ ap₂ (outcomeOf (length (start (from-there .before) .args .log .now)) (start (from-there .before) .args .place))
-      (handed-on (from-there .from .result .sum) (l .before .struct-told .given .0 .1) ∙ from-there .from .ensures .0) (held from-there .1)
+      ∙ ap₂ (outcomeOf (length (first .args .log .now)) (first .args .place)) (handed-on (walk there .combine .result .sum) (l .before .struct-told .given .1 .0 .1) ∙ said there .sums) (said there .holds)
 
-  logs : l .logged .last .0 ≡ loggedOf (start (from-there .before) .args .log .now) (start (from-there .before) .args .place) (said from-there)
-  logs = l .logged .ensures .1 ∙ ap (loggedOf (start (from-there .before) .args .log .now) (start (from-there .before) .args .place)) (held from-there .1)
+  logs : l .logged .last .0 ≡ loggedOf (first .args .log .now) (first .args .place) (says sum (first .args .session) (asked first) .log)
+  logs = l .logged .ensures .1 ∙ ap (loggedOf (first .args .log .now) (first .args .place)) (said there .holds)
+
+combine-requires : tie.Need-combine-requires
+combine-requires c κs = search needs
 
 judged-requires : tie.Need-judged-requires
 judged-requires c κs = search needs
@@ -62,18 +73,15 @@ refused-requires c κs = search needs
 
 returns : tie.Need-returns
 returns c =
-    let s = c .before .before .before .before in
-    let e = ends-early (s .args .session) (Combine (s .args .x)) (s .args .log .now) (s .args .place) _ (c .before .before .judged .ensures) (c .before .if1 .taken) in
+    let w = c .before .before .before in
+    let s = start w in
+    let e = ends-early (s .args .session) (asked s) (s .args .log .now) (s .args .place) _ _ (walks w .0) _ (c .before .before .judged .ensures) (c .before .if1 .taken) in
     (c .refused .ensures ∙ e .0, e .1)
-
-from-requires : tie.Need-from-requires
-from-requires c κs = (may c .holds, may c .inside)
 
 logged-requires : tie.Need-logged-requires
 logged-requires c κs =
-    let f = c .before .before .before in
-    let h = held f in
-    ((omega (arith, h .0, says-fit (f .before) .few), may (f .before) .placed), ap allFit (h .1) ∙ says-fit (f .before) .fit)
+    let e = c .before .before .before in
+    ((said e .few, may e .placed), ap allFit (said e .holds) ∙ said e .fit)
 
 refused-requires-2 : tie.Need-refused-requires-2
 refused-requires-2 c κs = search needs
@@ -84,20 +92,19 @@ same-length c = search needs
 returns-2 : tie.Need-returns-2
 returns-2 c =
     let l = c .before .before .before .before .before in
-    let t = from-there l .before in
-    let s = start t in
-    let e = ends-full (s .args .session) (Combine (s .args .x)) (s .args .log .now) (s .args .place) (may t) (says-fit t .fit) (l .logged .result) (told l) (c .before .if2 .taken) in
+    let s = first l in
+    let e = ends-full (s .args .session) (asked s) (s .args .log .now) (s .args .place) (may (there l)) (said (there l) .fit) (l .logged .result) (told l) (c .before .if2 .taken) in
     (c .refused2 .ensures ∙ e .0, logs l ∙ e .1)
 
 applied-requires : tie.Need-applied-requires
 applied-requires c κs =
-    let f = c .before .before .before .before .before .before .before .before .before in
-    (omega (arith, held f .0, says-fit (f .before) .few), (may (f .before) .holds, may (f .before) .free))
+    let e = there (c .before .before .before .before .before) in
+    (said e .few, (may e .holds, may e .free))
 
 raised-requires : tie.Need-raised-requires
 raised-requires c κs =
-    let t = c .before .before .before .before .before .before .before .before .before .before .before in
-    rw (c .applied .ensures) (may t .holds .tree-in-rule, may t .inside)
+    let e = there (c .before .before .before .before .before .before) in
+    rw (c .applied .ensures) (may e .holds .tree-in-rule, may e .inside)
 
 same-length-2 : tie.Need-same-length-2
 same-length-2 c = search needs
@@ -105,19 +112,22 @@ same-length-2 c = search needs
 returns-3 : tie.Need-returns-3
 returns-3 c =
     let l = c .before .before .before .before .before .before .before in
-    let t = from-there l .before in
-    let s = start t in
-    let e = ends-well (s .args .session) (Combine (s .args .x)) (s .args .log .now) (s .args .place) (may t) (says-fit t .fit) (l .logged .result) (told l) (c .before .before .before .if2 .left) in
-    (ap (λ (o : Session). record { outcome = l .logged .result; session = o }) (c .raised .ensures ∙ combined (s .args .session) (c .before .applied .result) (s .args .x) _ (held (from-there l) .1) (c .before .applied .ensures)) ∙ e .0, logs l ∙ e .1)
+    let s = first l in
+    let e = ends-well (s .args .session) (asked s) (s .args .log .now) (s .args .place) (may (there l)) (said (there l) .fit) (l .logged .result) (told l) (c .before .before .before .if2 .left) in (
+      ap (λ (o : Session). record { outcome = l .logged .result; session = o })
+          (c .raised .ensures ∙ combined (s .args .session) (c .before .applied .result) (s .args .x) _ (said (there l) .holds) (c .before .applied .ensures))
+          ∙ e .0,
+      logs l ∙ e .1,
+    )
 
 pub combine-spec : {M : Type 1} → statement M
 combine-spec =
     tie.close
     (tie.spec
+    combine-requires
     judged-requires
     refused-requires
     returns
-    from-requires
     logged-requires
     refused-requires-2
     same-length

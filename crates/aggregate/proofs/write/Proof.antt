@@ -1,78 +1,86 @@
--- `write` meets its contract: it is refused first, or the walk is made with the new value, and then its messages are logged and applied.
-use mathlib.Core.List.{List}
+-- `write` meets its contract: the walk is made with the new value, and unless it is refused its messages are logged and applied.
+use mathlib.Core.Path.{_≡_, ap, ap₂, _∙_}
 use Prim.Native.Nat.{ℕ}
-use mathlib.Core.Path.{_≡_, sym, ap, _∙_}
 use native.Mathlib.Omega.{arith}
-use lib.IntN.{pos}
-use lib.Signed.{mag}
 use lib.ListN.{length, replicate, length-replicate}
+use lib.Signed.{mag}
 use mir.Facts.{toZ-ofZ}
 use borrow.Author.Needs.{needs}
 use borrow.Author.Tests.{lt-ltb}
 use Rattle.tree.specs.Operation.{sum}
-use Rattle.messages.specs.declared.Message.{Message}
+use Rattle.messages.proofs.Parts.{handed-on}
+use Rattle.requests.specs.declared.Request.{Request}
 use Rattle.requests.specs.declared.Request.the-variants.{Write}
 use Rattle.session.specs.Soundness.{Sound}
 use Rattle.session.specs.declared.Session.{Session}
 use Rattle.session.proofs.Typing.{typed}
-use Rattle.mechanism.specs.Views.{view}
-use Rattle.mechanism.specs.Spreading as mechanism
-use Rattle.mechanism.specs.Requests.{valued, writes}
+use Rattle.mechanism.specs.Requests.{valued, says}
 use Rattle.mechanism.specs.Refusals.{allFit}
 use Rattle.mechanism.proofs.Valued.{valued-sound}
+use Rattle.walk.specs.Walking.{walkedOf, tracedOf}
 use Rattle.aggregate.specs.Serving.{outcomeOf, loggedOf}
-use Rattle.aggregate.specs.Traces.{trace, pushedAll, messagesIn}
-use Rattle.aggregate.proofs.Traced.{trace-holds}
-use Rattle.aggregate.proofs.Judging.{Ready, ready}
-use Rattle.aggregate.proofs.Ending.{Spoken, spoken, ends-early, ends-full, ends-well, written}
+use Rattle.aggregate.proofs.Judging.{Ready}
+use Rattle.aggregate.proofs.Ending.{Spoken, spoken, ends-early, goes-on, ends-full, ends-well, written}
 use Rattle.aggregate.proofs.write.Statement.{statement}
 use Rattle.aggregate.proofs.write.Tie as tie
 
--- past the tests: the request may say what it has to say
-module _ (e : tie.Else1) where
+-- the request
+abbrev asked : tie.Start → Request
+asked s = Write (s .args .x) (s .args .value)
+
+-- what the walk answers and leaves
+module _ (w : tie.After-write) where
   abbrev start : tie.Start
-  start = e .before .before .before
+  start = w .before .before .before
 
-  may : Ready (start .args .session) (start .args .x) (length (start .args .log .now)) (start .args .place)
-  may = ready (start .args .session) (start .args .x) (length (start .args .log .now)) (start .args .place) (sym (e .before .judged .ensures) ∙ e .if1 .left)
+  walks : (w .write .result ≡ walkedOf (start .args .session) (asked start) (replicate 510 0)) × (w .write .last .1 .1 .1 .0 ≡ tracedOf (start .args .session) (asked start) (replicate 510 0))
+  walks = rw (toZ-ofZ (start .fits .value)) at (w .write .ensures)
 
-  says-fit : Spoken (start .args .session) (Write (start .args .x) (start .args .value))
-  says-fit =
-      spoken (start .args .session) (Write (start .args .x) (start .args .value)) (typed (start .args .session) _ (start .good .0))
-      (lt-ltb (mag (start .args .value)) 2147483648 (start .fits .value .sfits)) may
+-- past the tests
+module _ (e : tie.Else1) where
+  abbrev walk : tie.After-write
+  walk = e .before .before
 
--- the session with the new value
-module _ (v : tie.After-valued) where
-  new : v .valued .result ≡ valued (start (v .before) .args .session) (start (v .before) .args .x) (start (v .before) .args .value)
-  new = rw (toZ-ofZ (start (v .before) .fits .value)) at (v .valued .ensures)
+  abbrev began : tie.Start
+  began = start walk
 
-  new-sound : Sound 2 (v .valued .result)
-  new-sound = rw new (valued-sound (start (v .before) .args .session) (start (v .before) .args .x) (start (v .before) .args .value) (may (v .before) .holds) (may (v .before) .inside))
+  may : Ready (began .args .session) (began .args .x) (length (began .args .log .now)) (began .args .place)
+  may = goes-on (began .args .session) (asked began) (began .args .log .now) (began .args .place) _ _ (walks walk .0) _ (e .before .judged .ensures) (e .if1 .left)
 
--- what the trace holds
-module _ (f : tie.After-from) where
-  abbrev there : tie.Else1
-  there = f .before .before .before
-
-  abbrev said : List Message
-  said = writes sum (start there .args .session) (start there .args .x) (start there .args .value)
-
-  held : (f .from .result ≡ length said) × (messagesIn (f .from .last .1 .1 .0) (f .from .result) ≡ said)
-  unfolding writes
-  held =
-      trace-holds said _ _ _ (says-fit there .sized) (says-fit there .few) (length-replicate {A = ℕ} 510 0)
-      (f .from .ensures ∙ ap (λ (o : Session). pushedAll (mechanism.write sum (view o) (start there .args .x)) (trace (replicate 510 0) 0)) (new (f .before .before)))
+  said : Spoken (began .args .session) (asked began) (walk .write .result) (walk .write .last .1 .1 .1 .0)
+  said =
+      spoken (began .args .session) (asked began) _ (replicate 510 0) _ (typed (began .args .session) _ (began .good .0)) (lt-ltb (mag (began .args .value)) 2147483648 (began .fits .value .sfits)) may
+      (length-replicate {A = ℕ} 510 0) (walks walk .0) (walks walk .1)
 
 -- what was answered and logged
 module _ (l : tie.After-logged) where
-  abbrev from-there : tie.After-from
-  from-there = l .before .before .before
+  abbrev there : tie.Else1
+  there = l .before .before .before .before
 
-  told : l .logged .result ≡ outcomeOf (length (start (there from-there) .args .log .now)) (start (there from-there) .args .place) (pos 0) (said from-there)
-  told = l .logged .ensures .0 ∙ ap (outcomeOf (length (start (there from-there) .args .log .now)) (start (there from-there) .args .place) (pos 0)) (held from-there .1)
+  abbrev first : tie.Start
+  first = began there
 
-  logs : l .logged .last .0 ≡ loggedOf (start (there from-there) .args .log .now) (start (there from-there) .args .place) (said from-there)
-  logs = l .logged .ensures .1 ∙ ap (loggedOf (start (there from-there) .args .log .now) (start (there from-there) .args .place)) (held from-there .1)
+  told : l .logged .result ≡ outcomeOf (length (first .args .log .now)) (first .args .place) (says sum (first .args .session) (asked first) .sum) (says sum (first .args .session) (asked first) .log)
+  told =
+      l .logged .ensures .0
+      ∙ ap₂ (outcomeOf (length (first .args .log .now)) (first .args .place)) (handed-on (walk there .write .result .sum) (l .before .struct-told .given .1 .0 .1) ∙ said there .sums) (said there .holds)
+
+  logs : l .logged .last .0 ≡ loggedOf (first .args .log .now) (first .args .place) (says sum (first .args .session) (asked first) .log)
+  logs = l .logged .ensures .1 ∙ ap (loggedOf (first .args .log .now) (first .args .place)) (said there .holds)
+
+-- the session with the new value
+module _ (v : tie.After-valued) where
+  abbrev logged : tie.After-logged
+  logged = v .before .before .before .before .before
+
+  new : v .valued .result ≡ valued (first logged .args .session) (first logged .args .x) (first logged .args .value)
+  new = rw (toZ-ofZ (first logged .fits .value)) at (v .valued .ensures)
+
+  new-sound : Sound 2 (v .valued .result)
+  new-sound = rw new (valued-sound (first logged .args .session) (first logged .args .x) (first logged .args .value) (may (there logged) .holds) (may (there logged) .inside))
+
+write-requires : tie.Need-write-requires
+write-requires c κs = search needs
 
 judged-requires : tie.Need-judged-requires
 judged-requires c κs = search needs
@@ -82,21 +90,15 @@ refused-requires c κs = search needs
 
 returns : tie.Need-returns
 returns c =
-    let s = c .before .before .before .before in
-    let e = ends-early (s .args .session) (Write (s .args .x) (s .args .value)) (s .args .log .now) (s .args .place) _ (c .before .before .judged .ensures) (c .before .if1 .taken) in
+    let w = c .before .before .before in
+    let s = start w in
+    let e = ends-early (s .args .session) (asked s) (s .args .log .now) (s .args .place) _ _ (walks w .0) _ (c .before .before .judged .ensures) (c .before .if1 .taken) in
     (c .refused .ensures ∙ e .0, e .1)
-
-valued-requires : tie.Need-valued-requires
-valued-requires c κs = omega (arith, may c .inside, may c .holds .tree-in-rule .few)
-
-from-requires : tie.Need-from-requires
-from-requires c κs = (new-sound (c .before), rw (new (c .before)) (may (c .before .before) .inside))
 
 logged-requires : tie.Need-logged-requires
 logged-requires c κs =
-    let f = c .before .before in
-    let h = held f in
-    ((omega (arith, h .0, says-fit (there f) .few), may (there f) .placed), ap allFit (h .1) ∙ says-fit (there f) .fit)
+    let e = c .before .before .before in
+    ((said e .few, may e .placed), ap allFit (said e .holds) ∙ said e .fit)
 
 refused-requires-2 : tie.Need-refused-requires-2
 refused-requires-2 c κs = search needs
@@ -107,28 +109,31 @@ same-length c = search needs
 returns-2 : tie.Need-returns-2
 returns-2 c =
     let l = c .before .before .before .before .before in
-    let t = there (from-there l) in
-    let s = start t in
-    let e = ends-full (s .args .session) (Write (s .args .x) (s .args .value)) (s .args .log .now) (s .args .place) (may t) (says-fit t .fit) (l .logged .result) (told l) (c .before .if2 .taken) in
+    let s = first l in
+    let e = ends-full (s .args .session) (asked s) (s .args .log .now) (s .args .place) (may (there l)) (said (there l) .fit) (l .logged .result) (told l) (c .before .if2 .taken) in
     (c .refused2 .ensures ∙ e .0, logs l ∙ e .1)
+
+valued-requires : tie.Need-valued-requires
+valued-requires c κs =
+    let m = may (there (c .before .before .before .before)) in
+    omega (arith, m .inside, m .holds .tree-in-rule .few)
 
 applied-requires : tie.Need-applied-requires
 applied-requires c κs =
-    let f = c .before .before .before .before .before .before .before .before in
-    (omega (arith, held f .0, says-fit (there f) .few), (new-sound (f .before .before), rw (new (f .before .before)) (may (there f) .free)))
+    let v = c .before in
+    (said (there (logged v)) .few, (new-sound v, rw (new v) (may (there (logged v)) .free)))
 
 same-length-2 : tie.Need-same-length-2
 same-length-2 c = search needs
 
 returns-3 : tie.Need-returns-3
 returns-3 c =
-    let l = c .before .before .before .before .before .before in
-    let f = from-there l in
-    let t = there f in
-    let s = start t in
-    let e = ends-well (s .args .session) (Write (s .args .x) (s .args .value)) (s .args .log .now) (s .args .place) (may t) (says-fit t .fit) (l .logged .result) (told l) (c .before .before .if2 .left) in (
+    let v = c .before .before in
+    let l = logged v in
+    let s = first l in
+    let e = ends-well (s .args .session) (asked s) (s .args .log .now) (s .args .place) (may (there l)) (said (there l) .fit) (l .logged .result) (told l) (v .before .if2 .left) in (
       ap (λ (o : Session). record { outcome = l .logged .result; session = o })
-          (written (s .args .session) (f .before .before .valued .result) (c .applied .result) (s .args .x) (s .args .value) _ (new (f .before .before)) (held f .1) (c .applied .ensures))
+          (written (s .args .session) (v .valued .result) (c .applied .result) (s .args .x) (s .args .value) _ (new v) (said (there l) .holds) (c .applied .ensures))
           ∙ e .0,
       logs l ∙ e .1,
     )
@@ -137,15 +142,15 @@ pub write-spec : {M : Type 1} → statement M
 write-spec =
     tie.close
     (tie.spec
+    write-requires
     judged-requires
     refused-requires
     returns
-    valued-requires
-    from-requires
     logged-requires
     refused-requires-2
     same-length
     returns-2
+    valued-requires
     applied-requires
     same-length-2
     returns-3)

@@ -1,6 +1,6 @@
 -- `apply::apply` meets its contract: the messages so far are applied, and no count is near its limit.
 use mathlib.Core.Path.{_≡_}
-use Prim.Native.Nat.{_-_, _≤_}
+use Prim.Native.Nat.{_-_, _≤_, min}
 use native.Mathlib.Omega.{arith}
 use borrow.Author.Needs.{needs}
 use Rattle.aggregate.specs.Afters.{linksBy}
@@ -66,7 +66,7 @@ loop-again-2 c =
 
 returns : tie.Need-returns Inv-loop μ-loop
 returns c =
-    let e : c .before .loop .k ≡ c .before .before .args .len = omega arith in
+    let e : c .before .loop .k ≡ min (c .before .before .args .len) 510 = omega arith in
     rw e at (c .before .loop .inv .1 .is)
 
 pub apply-spec : {M : Type 1} → statement M

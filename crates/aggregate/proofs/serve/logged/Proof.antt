@@ -34,7 +34,7 @@ returns-2 c =
     let e = c .before .before .before .before in
     let s = e .before .before .before .before in
     rw (toZ-ofZ (s .fits .answer))
-    (all-logged (s .args .log .now) (s .args .place) (s .args .answer) (s .args .trace .now) (s .args .len) (omega (arith, e .before .bits .ensures, e .before .before .usable-bits .ensures))
+    (all-logged (s .args .log .now) (s .args .place) (s .args .answer) (s .args .trace .now) (s .args .len) (s .pre .0 .0) (omega (arith, e .before .bits .ensures, e .before .before .usable-bits .ensures))
     (s .pre .1) _ (c .before .before .«record» .result) (c .before .before .«record» .ensures))
 
 pub logged-spec : {M : Type 1} → statement M

@@ -1,0 +1,83 @@
+-- A trace: the messages of a request as numbers, of kind, sender, receiver and the value's 40 bits; and the log that it is written to.
+use mathlib.Core.Bool.{cond}
+use mathlib.Core.List.{List, [], _∷_, _++_}
+use Prim.Native.Nat.{ℕ, zero, suc, _+_, _*_, _/_, _%_, min}
+use lib.Dec.{eqb, ltb}
+use lib.IntN.{ℤ, pos}
+use lib.ListN.{getD, set, length}
+use Rattle.fields.specs.Twos.{twos, signed, within}
+use Rattle.messages.specs.Writing.{writtenOf, logAfter}
+use Rattle.messages.specs.declared.Message.{Message}
+use Rattle.messages.specs.declared.Message.the-variants.{Probe, Response, Update, Release}
+use Rattle.messages.specs.declared.Written.{Written}
+use Rattle.messages.specs.declared.Written.the-variants.{Next, Full, Misfit}
+
+unfoldable pub number : ℕ → ℕ → ℕ → ℕ → ℕ
+number kind a b low = kind * 72057594037927936 + a * 281474976710656 + b * 1099511627776 + low
+
+-- a value's 40 bits, 0 where it does not fit; and back
+unfoldable pub low : ℤ → ℕ
+low z = cond (within 40 z) (twos 40 z) 0
+
+unfoldable pub value : ℕ → ℤ
+value n = cond (ltb n 1099511627776) (signed 40 n) (pos 0)
+
+-- the number of a message, and the message of a number
+unfoldable pub coded : Message → ℕ
+coded (Probe a b) = number 0 a b 0
+coded (Response a b z) = number 1 a b (low z)
+coded (Update a b z) = number 2 a b (low z)
+coded (Release a b) = number 3 a b 0
+
+unfoldable pub messageBy : ℕ → ℕ → ℕ → ℤ → Message
+messageBy kind a b z = cond (eqb kind 0) (Probe a b) (cond (eqb kind 1) (Response a b z) (cond (eqb kind 2) (Update a b z) (Release a b)))
+
+unfoldable pub decoded : ℕ → Message
+decoded n = messageBy (n / 72057594037927936) (n / 281474976710656 % 256) (n / 1099511627776 % 256) (value (n % 1099511627776))
+
+-- room for 510 numbers, and how many of them count
+pub record Trace : Type 0 where
+  pub numbers : List ℕ
+  pub len : ℕ
+
+abbrev pub trace : List ℕ → ℕ → Trace
+trace ns k = record { numbers = ns; len = k }
+
+-- one message more, or none where the trace is full
+unfoldable pub pushed : Message → Trace → Trace
+pushed m t = cond (ltb (t .len) 510) (trace (set (t .numbers) (t .len) (coded m)) (t .len + 1)) t
+
+unfoldable pub pushedAll : List Message → Trace → Trace
+pushedAll [] t = t
+pushedAll (m ∷ ms) t = pushedAll ms (pushed m t)
+
+-- the first k messages of a trace
+unfoldable pub messagesIn : List ℕ → ℕ → List Message
+messagesIn ns zero = []
+messagesIn ns (suc k) = messagesIn ns k ++ (decoded (getD ns k 0) ∷ [])
+
+-- the messages of a trace
+abbrev pub messagesOf : List ℕ → ℕ → List Message
+messagesOf ns len = messagesIn ns (min len 510)
+
+-- a log, and the place of the next record in it
+pub record Writing : Type 0 where
+  pub log : List ℕ
+  pub place : ℕ
+
+abbrev pub writing : List ℕ → ℕ → Writing
+writing s at = record { log = s; place = at }
+
+-- the place after a message was written; as it was where it was not
+abbrev pub placed : Written → ℕ → ℕ
+placed (Next next) place = next
+placed Full place = place
+placed Misfit place = place
+
+-- one message written, and message by message
+abbrev pub noted : Message → Writing → Writing
+noted m w = writing (logAfter (w .log) (w .place) m) (placed (writtenOf (length (w .log)) (w .place) m) (w .place))
+
+unfoldable pub notedAll : List Message → Writing → Writing
+notedAll [] w = w
+notedAll (m ∷ ms) w = notedAll ms (noted m w)

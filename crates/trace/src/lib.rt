@@ -1,0 +1,104 @@
+// The trace of a request: its messages before they are logged, each as a number.
+//
+// Every public function is total: it takes whatever it is handed and has one outcome. A trace has room
+// for 510 messages, and of a length above that only 510 are ever used.
+mod code; // a message as a number
+
+ghost use mathlib.Core.Path.{_≡_};
+ghost use Prim.Native.Nat.{_≤_, min};
+ghost use Rattle.messages.specs.Records as records;
+ghost use Rattle.messages.specs.Writing.{bitsOfAll};
+ghost use Rattle.trace.specs.Traces as spec;
+use messages::Message;
+use messages::Written;
+
+// One message more, or none where the trace is full.
+pub fn push(trace: &mut [u64; 510], len: usize, message: Message) -> usize
+    ensures { λ r. ⌜ spec.trace (now (trace .exit)) r ≡ spec.pushed message (spec.trace (now (trace .entry)) len) ⌝ }
+{
+    let number = code::coded(message);
+    if len < 510 {
+        trace[len] = number;
+        return len + 1;
+    }
+    len
+}
+
+// The message of a number.
+pub fn decoded(number: u64) -> Message
+    ensures { λ r. ⌜ r ≡ spec.decoded number ⌝ }
+{
+    let kind = number / 72057594037927936;
+    let a = (number / 281474976710656 % 256) as u8;
+    let b = (number / 1099511627776 % 256) as u8;
+    let z = code::value(number % 1099511627776);
+    if kind == 0 {
+        return Message::Probe(a, b);
+    }
+    if kind == 1 {
+        return Message::Response(a, b, z);
+    }
+    if kind == 2 {
+        return Message::Update(a, b, z);
+    }
+    Message::Release(a, b)
+}
+
+// How many bits the records of the first len messages have.
+pub fn bits(trace: &[u64; 510], len: usize) -> usize
+    ensures { λ r. ⌜ r ≡ bitsOfAll (spec.messagesOf (now (trace .entry)) len) ⌝ }
+{
+    let end = most(len);
+    let mut bits = 0;
+    let mut i: usize = 0;
+    while i < end {
+        bits += width(decoded(trace[i]));
+        i += 1;
+    }
+    bits
+}
+
+// Logs the first len messages from place on, and answers the place after them. A message that is
+// refused is left out.
+pub fn record(log: &mut [u8], place: usize, trace: &[u64; 510], len: usize) -> usize
+    ensures { λ r. ⌜ spec.writing (now (log .exit)) r ≡ spec.notedAll (spec.messagesOf (now (trace .entry)) len) (spec.writing (now (log .entry)) place) ⌝ }
+{
+    let end = most(len);
+    let mut at = place;
+    let mut i: usize = 0;
+    while i < end {
+        at = placed(messages::write(log, at, decoded(trace[i])), at);
+        i += 1;
+    }
+    at
+}
+
+// How many messages of a trace are used.
+fn most(len: usize) -> usize
+    ensures { λ r. ⌜ (r ≡ min len 510) × (r ≤ 510) ⌝ }
+{
+    if len < 510 { len } else { 510 }
+}
+
+// The place after a message was written; as it was where it was not.
+fn placed(written: Written, place: usize) -> usize
+    ensures { λ r. ⌜ r ≡ spec.placed written place ⌝ }
+{
+    match written {
+        Written::Next(next) => next,
+        Written::Full => place,
+        Written::Misfit => place,
+    }
+}
+
+// How many bits the record of a message has.
+fn width(message: Message) -> usize
+    ensures { λ r. ⌜ (r ≡ records.bitsOf message) × (r ≤ 58) ⌝ }
+{
+    match message {
+        Message::Probe(_, _) => 18,
+        Message::Response(_, _, _) => 58,
+        Message::Update(_, _, _) => 58,
+        Message::Release(_, _) => 18,
+    }
+}
