@@ -15,8 +15,7 @@ pub fn applied(session: Session, trace: &[u64; 510], len: usize) -> Session
     requires { ⌜ (len ≤ 510) × (Sound 2 session × (session .accepted < limit)) ⌝ }
     ensures { λ r. ⌜ r ≡ relinked session (spec.applied (messagesOf (now (trace .entry)) len) (linksOf session)) ⌝ }
 {
-    let tree = session.tree;
-    let values = session.values;
+    let mut session = session;
     let up = session.up;
     let down = session.down;
     let mut up_lease = up.lease;
@@ -35,21 +34,20 @@ pub fn applied(session: Session, trace: &[u64; 510], len: usize) -> Session
         &mut down_cache,
         &mut down_messages,
     );
-    Session {
-        tree,
-        values,
-        up: Pairs {
-            lease: up_lease,
-            cache: up_cache,
-            messages: up_messages,
-        },
-        down: Pairs {
-            lease: down_lease,
-            cache: down_cache,
-            messages: down_messages,
-        },
-        accepted: session.accepted + 1,
-    }
+    let up = Pairs {
+        lease: up_lease,
+        cache: up_cache,
+        messages: up_messages,
+    };
+    let down = Pairs {
+        lease: down_lease,
+        cache: down_cache,
+        messages: down_messages,
+    };
+    session.up = up;
+    session.down = down;
+    session.accepted = session.accepted + 1;
+    session
 }
 
 // The first len messages, each at its pair.

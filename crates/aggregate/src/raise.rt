@@ -5,7 +5,6 @@ ghost use Prim.Native.Nat.{_<_};
 ghost use Rattle.tree.specs.Parents.{InRule};
 ghost use Rattle.aggregate.specs.Afters.{raisedOf, Climbing, upRaised, downRaised};
 use rule::Rule;
-use session::Pairs;
 use session::Session;
 
 // The session with every pair that points to x raised.
@@ -13,38 +12,19 @@ pub fn raised(session: Session, x: usize) -> Session
     requires { ⌜ InRule (session .tree .parents) (session .tree .count) × (x < session .tree .count) ⌝ }
     ensures { λ r. ⌜ r ≡ raisedOf 2 session x ⌝ }
 {
-    let tree = session.tree;
-    let values = session.values;
-    let up = session.up;
-    let down = session.down;
-    let up_cache = up.cache;
-    let up_messages = up.messages;
-    let down_cache = down.cache;
-    let down_messages = down.messages;
-    let mut up_lease = up.lease;
-    let mut down_lease = down.lease;
+    let mut session = session;
+    let mut up = session.up;
+    let mut down = session.down;
     raise(
-        tree.count as usize,
-        &tree.parents,
+        session.tree.count as usize,
+        &session.tree.parents,
         x,
-        &mut up_lease,
-        &mut down_lease,
+        &mut up.lease,
+        &mut down.lease,
     );
-    Session {
-        tree,
-        values,
-        up: Pairs {
-            lease: up_lease,
-            cache: up_cache,
-            messages: up_messages,
-        },
-        down: Pairs {
-            lease: down_lease,
-            cache: down_cache,
-            messages: down_messages,
-        },
-        accepted: session.accepted,
-    }
+    session.up = up;
+    session.down = down;
+    session
 }
 
 // Every pair that points to x gets the rule's number. `at` is the next node on the way from x to the

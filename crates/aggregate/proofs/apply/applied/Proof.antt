@@ -6,14 +6,14 @@ use Rattle.aggregate.proofs.apply.applied.Tie as tie
 
 apply-requires : tie.Need-apply-requires
 apply-requires c κs =
-    let s = c .before .before .before .before .before .before .before .before .before .before .before .before .before .before .before .before in
+    let s = c .before .before .before .before .before .before .before .before .before .before .before .before .before .before in
     (s .pre .0, counts-paid (s .args .session) (s .pre .1 .0) (search needs) (search needs))
 
-add-t29 : tie.Need-add-t29
-add-t29 c = search needs
+add-session : tie.Need-add-session
+add-session c = search needs
 
 returns : tie.Need-returns
 returns c = rw (← c .before .apply .ensures)
 
 pub applied-spec : {M : Type 1} → statement M
-applied-spec = tie.close (tie.spec apply-requires add-t29 returns)
+applied-spec = tie.close (tie.spec apply-requires add-session returns)
