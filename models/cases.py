@@ -151,7 +151,7 @@ def tree(count, children, changed, out):
     unused = [entries[0]] + entries[max(count, 1) :]
     right = 1 <= count <= 256 and not any(unused) and all(entries[i] < i for i in range(1, count))
     answer = written(entries[1:count], out) if right else f" 6 0 bytes,{shown(out)}"
-    return f"tree {count} {children} {changed}:{answer}"
+    return f"tree {count} {children} {changed}:{answer} session {0 if right else 6} {count if right else 0}"
 
 
 def request(fields):
@@ -272,18 +272,24 @@ def summed(*arrays):
     return total
 
 
+def holding(session):
+    values, *pairs = (session.arrays[part] for part in PARTS[2:-1])
+    return f"\n  holds {session.accepted} {summed(values)} {summed(*pairs[:3])} {summed(*pairs[3:])}"
+
+
 def session_served(data, place, room, bytes_of_list):
     try:
         session = Session(parents_of(data))
     except Refused as refused:
-        return f"session{shown(data)}: {refused.args[0]}"
+        other = Session([0])
+        other.accepted, other.arrays["values"][1] = 9, 7
+        return f"session{shown(data)}: {refused.args[0]}{holding(other)}"
     try:
         asked, refusal = requests_of(bytes_of_list), 0
     except Refused as refused:
         asked, refusal = [], refused.args[0]
     words = served(session, asked, place, room)
-    values, *pairs = (session.arrays[part] for part in PARTS[2:-1])
-    return f"session{shown(data)}: 0 {refusal}{words}\n  holds {session.accepted} {summed(values)} {summed(*pairs[:3])} {summed(*pairs[3:])}"
+    return f"session{shown(data)}: 0 {refusal}{words}{holding(session)}"
 
 
 def session_changed(data, part, place, value, bytes_of_list):
@@ -354,9 +360,11 @@ class Cases:
     def read(self, place, end, data):
         self.add("R", log_read(place, end, data), (place, end), data)
 
-    def session(self, parents, asked, place=0, room=2423):
-        data, asked = table_of(parents), list_of(asked)
+    def loaded(self, data, asked, place=0, room=2423):
         self.add("Q", session_served(data, place, room, asked), (len(data), place, room), data + asked)
+
+    def session(self, parents, asked, place=0, room=2423):
+        self.loaded(table_of(parents), list_of(asked), place, room)
 
     def changed(self, parents, asked, part, at, value):
         data, asked = table_of(parents), list_of(asked)
@@ -488,9 +496,13 @@ ORDER = ([0, 0], [("combine", 1), ("combine", 0), ("write", 2, 7), ("write", 2, 
 
 
 def sessions(cases):
-    """Document 01's cases; random trees and lists; rounds; room to the bit; the largest sums and trees."""
+    """Document 01's cases; refused tables and lists; random trees and lists; rounds; room to the bit; the largest sums and trees."""
     for parents, asked in (PATH, STAR, ORDER):
         cases.session(parents, asked)
+    for case in ("", "0000", "0230", "00c0", "808000", "01c000"):
+        cases.loaded(bytes.fromhex(case), list_of(PATH[1]))
+    for case in ("", "00", "8008", "000801"):
+        cases.loaded(table_of(PATH[0]), bytes.fromhex(case))
     cases.session([0], [("combine", 0), ("write", 1, 3), ("write", 1, -3)] * 20)
     cases.session([], [("combine", 0), ("write", 0, -(2**31)), ("combine", 0), ("write", 1, 0)])
     for count in (2, 3, 4, 5, 6, 7, 8, 9, 12, 17, 25, 40):

@@ -26,12 +26,13 @@ pub fn serve(table: u64, place: u64, room: u64, bytes: &[u8]) {
 fn loaded(table: &[u8], place: usize, room: usize, list: &[u8]) {
     show::bytes(table);
     show::text(b":");
-    let started = blank().load(table);
+    let started = other().load(table);
     show::byte(started.refusal);
     if started.refusal == 0 {
         show::byte(requests::judge(list).refusal);
-        held(run(started.session, place, room, list));
+        return held(run(started.session, place, room, list));
     }
+    held(started.session);
 }
 
 // The same, with one entry of the session changed at the end; then what each call answers.
@@ -42,20 +43,23 @@ pub fn unsound(table: u64, entry: u64, value: u64, bytes: &[u8]) {
     show::text(b":");
     let size = table as usize;
     if size <= bytes.len() {
-        let started = blank().load(&bytes[..size]);
+        let started = other().load(&bytes[..size]);
         let session = run(started.session, 0, 2423, &bytes[size..]);
         calls(change::entry(session, entry, value));
     }
     show::end();
 }
 
-// A session of one node.
-fn blank() -> Session {
+// A session that is to be replaced.
+fn other() -> Session {
     let tree = Tree {
-        count: 1,
+        count: 2,
         parents: [0; 256],
     };
-    Session::fresh(tree).session
+    let mut session = Session::fresh(tree).session;
+    session.values[1] = 7;
+    session.accepted = 9;
+    session
 }
 
 // The requests of an accepted list, up to the first that is refused.

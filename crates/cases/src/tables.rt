@@ -1,5 +1,7 @@
 // Tables: read, and written.
 use crate::show;
+use session::Session;
+use session::Started;
 use table::Reading;
 use table::Written;
 use tree::Tree;
@@ -29,16 +31,24 @@ fn into_ones(tree: Tree) {
 }
 
 // The tree of so many nodes in which each node but the first has so many children, as far as they
-// go, is written into the bytes; entry c is made 255 before.
+// go, is written into the bytes; entry c is made 255 before. Then a session is started from it.
 pub fn write(count: u64, children: u64, c: u64, out: &mut [u8]) {
     show::text(b"tree");
     show::number(count);
     show::number(children);
     show::number(c);
     show::text(b":");
-    answer(table::write(grown(count % 65536, children, c), out));
+    let tree = grown(count % 65536, children, c);
+    answer(table::write(tree, out));
     show::bytes(out);
+    started(Session::fresh(tree));
     show::end();
+}
+
+fn started(started: Started) {
+    show::text(b" session");
+    show::byte(started.refusal);
+    show::number(started.session.tree.count as u64);
 }
 
 fn answer(written: Written) {

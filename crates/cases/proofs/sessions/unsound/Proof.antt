@@ -23,8 +23,8 @@ slice-aggregate-text-2 c = search needs
 text-requires-2 : tie.Need-text-requires-2
 text-requires-2 c κs = search needs
 
-blank-requires : tie.Need-blank-requires
-blank-requires c κs = search needs
+other-requires : tie.Need-other-requires
+other-requires c κs = search needs
 
 slice-aggregate-load : tie.Need-slice-aggregate-load
 slice-aggregate-load c = sym (length-take-le _ _ (c .before .before .if1 .taken))
@@ -66,7 +66,7 @@ unsound-spec =
     number-requires-2
     slice-aggregate-text-2
     text-requires-2
-    blank-requires
+    other-requires
     slice-aggregate-load
     load-requires
     sub-run
