@@ -28,6 +28,7 @@ use Rattle.aggregate.specs.declared.Outcome.{Outcome}
 use Rattle.aggregate.proofs.Judging.{Ready, ready, admitted, refused-before, by-room}
 
 module _ (s : Session) (r : Request) (log : List ℕ) (place : ℕ) where
+  -- a refusal before the room is known is the whole outcome
   early : (n : ℕ) → n ≡ judgedOf (admits s (nodeOf r)) (s .accepted) (length log) place → n ≢ 0 → (refused n s ≡ servedOf s r (length log) place) × (log ≡ logOf s r log place)
   unfolding servedOf logOf
   early zero e d = absurd (d refl)
@@ -40,7 +41,6 @@ module _ (s : Session) (r : Request) (log : List ℕ) (place : ℕ) where
     by-admits : n ≡ judgedOf (admits s (nodeOf r)) (s .accepted) (length log) place
     by-admits = judged ∙ ap (λ (k : ℕ). judgedOf k (s .accepted) (length log) place) (ap (λ (o : Walked). o .refusal) walks ∙ walk-refused s r ns .0)
 
-    -- refused before the room is known
     pub ends-early : n ≢ 0 → (refused n s ≡ servedOf s r (length log) place) × (log ≡ logOf s r log place)
     ends-early = early n by-admits
 

@@ -11,11 +11,11 @@ use Rattle.mechanism.specs.Requests.{nodeOf, Small, says}
 use Rattle.trace.specs.Traces.{messagesOf}
 use Rattle.walk.specs.Walking.{admits, walkedOf, tracedOf}
 
--- A walk is refused with its own number, and then leaves the trace as it was.
+-- A walk is refused for the session or for the node alone, and then the trace stays as it was;
 abbrev pub Walk-refused : Type 0
 Walk-refused = (s : Session) (r : Request) (ns : List ℕ) → (walkedOf s r ns .refusal ≡ admits s (nodeOf r)) × (0 < walkedOf s r ns .refusal → tracedOf s r ns ≡ ns)
 
--- Else it answers the sum of the request, and the trace holds the messages of the request, no other ones and in their order.
+-- else it answers the sum of the request, and the trace holds its messages, all of them, no others, and in their order.
 abbrev pub Walk-says : Type 0
 Walk-says = (s : Session) (r : Request) (ns : List ℕ) → Typed s → Small r → length ns ≡ 510 → walkedOf s r ns .refusal ≡ 0
     → (walkedOf s r ns .sum ≡ says sum s r .sum) × (walkedOf s r ns .len ≡ length (says sum s r .log)) × (messagesOf (tracedOf s r ns) (walkedOf s r ns .len) ≡ says sum s r .log)
