@@ -18,7 +18,7 @@ use Rattle.tree.proofs.InRule.{in-rule-exactly}
 use Rattle.tree.proofs.Listed.{sizes-read}
 use Rattle.tree.proofs.Sizes.{sizes-add, size-below}
 use Rattle.session.specs.Holding.{leaseOf, cacheOf, sentOf, Typed}
-use Rattle.session.specs.Passes.{near, far, values, ordered}
+use Rattle.session.specs.Passes.{pairs, values, ordered}
 use Rattle.session.specs.Soundness.{limit, Sound, within, sound}
 use Rattle.session.specs.declared.Session.{Session}
 use Rattle.session.proofs.Indices.{pair-up, pair-down, to-child, to-parent, by-child}
@@ -52,10 +52,10 @@ module _ (s : Session) where
   twice = 2 * s .accepted
 
   abbrev pub nearPass : Bool
-  nearPass = near n twice (sizes ps n) (s .up .lease) (s .up .cache) (s .up .messages)
+  nearPass = pairs n twice false (sizes ps n) (s .up .lease) (s .up .cache) (s .up .messages)
 
   abbrev pub farPass : Bool
-  farPass = far n twice (sizes ps n) (s .down .lease) (s .down .cache) (s .down .messages)
+  farPass = pairs n twice true (sizes ps n) (s .down .lease) (s .down .cache) (s .down .messages)
 
   abbrev orderPass : Bool
   orderPass = ordered n ps (s .up .lease) (s .down .lease)
@@ -94,13 +94,13 @@ module _ (s : Session) where
       all-limits u v hu hv a = within-of 2 _ _ (leaseOf s u v) (cacheOf s u v) (sentOf s u v) (f .low u v hu hv a) (f .paid u v hu hv a) (f .caches-in u v hu hv a .within)
 
       near-passes : nearPass ≡ true
-      unfolding near
+      unfolding pairs
       near-passes = entries-of n twice (λ i. getD (sizes ps n) i 0) (s .up)
           (λ i z h. up-limits r i z h ∙ all-limits i (parent ps i) h (omega (arith, r .grown i z h)) (to-child ps n (r .grown) i z h))
           (λ i h u. f .no-pairs i h u .0)
 
       far-passes : farPass ≡ true
-      unfolding far
+      unfolding pairs
       far-passes = entries-of n twice (λ i. n - getD (sizes ps n) i 0) (s .down)
           (λ i z h. down-limits r i z h ∙ all-limits (parent ps i) i (omega (arith, r .grown i z h)) h (to-parent ps n (r .grown) i z h))
           (λ i h u. f .no-pairs i h u .1)
@@ -117,7 +117,7 @@ module _ (s : Session) where
 
     -- a session whose passes hold is sound
     sound-by : InRule ps n → s .accepted ≤ limit → nearPass ≡ true → farPass ≡ true → values n (s .values) ≡ true → orderPass ≡ true → Sound 2 s
-    unfolding near far
+    unfolding pairs
     sound-by r few a b c d =
         record {
           tree-in-rule = r;

@@ -1,5 +1,5 @@
 -- The tests of a session's entries as they are made: in passes over the places.
-use mathlib.Core.Bool.{Bool, cond, _&&_, _||_}
+use mathlib.Core.Bool.{Bool, true, false, cond, _&&_, _||_}
 use mathlib.Core.List.{List}
 use Prim.Native.Nat.{ℕ, zero, suc, _-_, min, max}
 use lib.Dec.{leb, ltb}
@@ -14,12 +14,14 @@ use Rattle.session.specs.Soundness.{within}
 unfoldable pub entry : ℕ → ℕ → ℕ → ℕ → ℕ → ℤ → ℕ → Bool
 entry n i twice k lease cache messages = cond (ltb 0 i && ltb i n) (within 2 k twice lease cache messages) (within 0 0 0 lease cache messages)
 
--- all entries from child to parent, and from parent to child; ks has the nodes at or below each node
-unfoldable pub near : ℕ → ℕ → List ℕ → List ℕ → List ℤ → List ℕ → Bool
-near n twice ks leases caches counts = every (λ i. entry n i twice (getD ks i 0) (getD leases i 0) (getD caches i (pos 0)) (getD counts i 0)) 256
+-- how many nodes are on the near side, k of n below the child: they, or for a pair from parent to child the rest
+abbrev pub side : ℕ → Bool → ℕ → ℕ
+side n false k = k
+side n true k = n - k
 
-unfoldable pub far : ℕ → ℕ → List ℕ → List ℕ → List ℤ → List ℕ → Bool
-far n twice ks leases caches counts = every (λ i. entry n i twice (n - getD ks i 0) (getD leases i 0) (getD caches i (pos 0)) (getD counts i 0)) 256
+-- all entries of one direction; ks has the nodes at or below each node
+unfoldable pub pairs : ℕ → ℕ → Bool → List ℕ → List ℕ → List ℤ → List ℕ → Bool
+pairs n twice down ks leases caches counts = every (λ i. entry n i twice (side n down (getD ks i 0)) (getD leases i 0) (getD caches i (pos 0)) (getD counts i 0)) 256
 
 -- all values of nodes that are not there
 unfoldable pub values : ℕ → List ℤ → Bool

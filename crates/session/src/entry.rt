@@ -7,37 +7,17 @@ ghost use Rattle.tree.specs.Ranges.{inRange};
 ghost use Rattle.session.specs.Soundness as spec;
 ghost use Rattle.session.specs.Passes as pass;
 
-// The pairs from child to parent: the near side is the child's.
-pub fn near<'a>(
+// The entries of all pairs of one direction: from child to parent, or from parent to child (down).
+pub fn pairs<'a>(
     count: u16,
     twice: u32,
+    down: bool,
     sizes: &'a [u16; 256],
     lease: &'a [u8; 256],
     cache: &'a [i64; 256],
     messages: &'a [u32; 256],
 ) -> bool
-    ensures { λ r. ⌜ r ≡ pass.near count twice (now (sizes .entry)) (now (lease .entry)) (now (cache .entry)) (now (messages .entry)) ⌝ }
-{
-    let mut i: usize = 0;
-    while i < 256 {
-        if !entry(count, i, twice, sizes[i], lease[i], cache[i], messages[i]) {
-            return false;
-        }
-        i += 1;
-    }
-    true
-}
-
-// The pairs from parent to child: the near side is the rest.
-pub fn far<'a>(
-    count: u16,
-    twice: u32,
-    sizes: &'a [u16; 256],
-    lease: &'a [u8; 256],
-    cache: &'a [i64; 256],
-    messages: &'a [u32; 256],
-) -> bool
-    ensures { λ r. ⌜ r ≡ pass.far count twice (now (sizes .entry)) (now (lease .entry)) (now (cache .entry)) (now (messages .entry)) ⌝ }
+    ensures { λ r. ⌜ r ≡ pass.pairs count twice down (now (sizes .entry)) (now (lease .entry)) (now (cache .entry)) (now (messages .entry)) ⌝ }
 {
     let mut i: usize = 0;
     while i < 256 {
@@ -45,7 +25,7 @@ pub fn far<'a>(
             count,
             i,
             twice,
-            rest(count, sizes[i]),
+            side(count, down, sizes[i]),
             lease[i],
             cache[i],
             messages[i],
@@ -103,6 +83,16 @@ fn in_range(k: u16, z: i64) -> bool
         return false;
     }
     z <= nodes * 2147483647
+}
+
+// How many nodes are on the near side of a pair, of so many below its child.
+fn side(count: u16, down: bool, size: u16) -> u16
+    ensures { λ r. ⌜ r ≡ pass.side count down size ⌝ }
+{
+    if down {
+        return rest(count, size);
+    }
+    size
 }
 
 // How many nodes are left.

@@ -89,9 +89,10 @@ impl Session {
         let count = self.tree.count;
         let twice = 2 * self.accepted;
         let sizes = self.tree.sizes();
-        if !entry::near(
+        if !entry::pairs(
             count,
             twice,
+            false,
             &sizes,
             &self.up.lease,
             &self.up.cache,
@@ -99,9 +100,10 @@ impl Session {
         ) {
             return false;
         }
-        if !entry::far(
+        if !entry::pairs(
             count,
             twice,
+            true,
             &sizes,
             &self.down.lease,
             &self.down.cache,

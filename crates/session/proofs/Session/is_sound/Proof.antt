@@ -33,14 +33,14 @@ rule-holds c = sym (c .before .in-rule .ensures) ∙ not-false _ (c .if1 .left)
 few-holds : (c : tie.Else2) → let s = s (c .before .before .before .before) in leb (s .accepted) limit ≡ true
 few-holds c = le-leb _ _ (c .if2 .left)
 
-near-told : (c : tie.After-near) → c .near .result ≡ nearPass (s (c .before .before .before .before .before .before .before .before .before .before .before .before))
-near-told c = rw (← c .before .before .before .before .before .before .sizes .ensures) (c .near .ensures)
+near-told : (c : tie.After-pairs) → c .pairs .result ≡ nearPass (s (c .before .before .before .before .before .before .before .before .before .before .before .before))
+near-told c = rw (← c .before .before .before .before .before .before .sizes .ensures) (c .pairs .ensures)
 
 near-holds : (c : tie.Else3) → nearPass (s (c .before .before .before .before .before .before .before .before .before .before .before .before .before)) ≡ true
 near-holds c = sym (near-told (c .before)) ∙ not-false _ (c .if3 .left)
 
-far-told : (c : tie.After-far) → c .far .result ≡ farPass (s (c .before .before .before .before .before .before .before .before .before .before .before .before .before .before .before .before .before .before .before))
-far-told c = rw (← c .before .before .before .before .before .before .before .before .before .before .before .before .before .sizes .ensures) (c .far .ensures)
+far-told : (c : tie.After-pairs2) → c .pairs2 .result ≡ farPass (s (c .before .before .before .before .before .before .before .before .before .before .before .before .before .before .before .before .before .before .before))
+far-told c = rw (← c .before .before .before .before .before .before .before .before .before .before .before .before .before .sizes .ensures) (c .pairs2 .ensures)
 
 far-holds : (c : tie.Else4) → farPass (s (c .before .before .before .before .before .before .before .before .before .before .before .before .before .before .before .before .before .before .before .before)) ≡ true
 far-holds c = sym (far-told (c .before)) ∙ not-false _ (c .if4 .left)
@@ -63,14 +63,14 @@ mul-twice c = search needs
 sizes-requires : tie.Need-sizes-requires
 sizes-requires c κs = search needs
 
-near-requires : tie.Need-near-requires
-near-requires c κs = search needs
+pairs-requires : tie.Need-pairs-requires
+pairs-requires c κs = search needs
 
 returns-3 : tie.Need-returns-3
 returns-3 c = sym (told (c .before .before .before .before .before .before .before .before .before .before .before .before .before) ∙ rw (rule-holds (c .before .before .before .before .before .before .before .before .before .before), few-holds (c .before .before .before .before .before .before .before .before .before), sym (near-told (c .before)) ∙ not-true _ (c .if3 .taken)))
 
-far-requires : tie.Need-far-requires
-far-requires c κs = search needs
+pairs-requires-2 : tie.Need-pairs-requires-2
+pairs-requires-2 c κs = search needs
 
 returns-4 : tie.Need-returns-4
 returns-4 c = sym (told (c .before .before .before .before .before .before .before .before .before .before .before .before .before .before .before .before .before .before .before .before) ∙ rw (rule-holds (c .before .before .before .before .before .before .before .before .before .before .before .before .before .before .before .before .before), few-holds (c .before .before .before .before .before .before .before .before .before .before .before .before .before .before .before .before), near-holds (c .before .before .before .before .before .before .before), sym (far-told (c .before)) ∙ not-true _ (c .if4 .taken)))
@@ -96,9 +96,9 @@ is-sound-spec =
     returns-2
     mul-twice
     sizes-requires
-    near-requires
+    pairs-requires
     returns-3
-    far-requires
+    pairs-requires-2
     returns-4
     values-requires
     returns-5

@@ -1,4 +1,4 @@
--- `entry::near` meets its contract: every entry is tested, and the first that fails ends it.
+-- `entry::pairs` meets its contract: every entry is tested, and the first that fails ends it.
 use mathlib.Core.Path.{_≡_, sym, _∙_}
 use mathlib.Core.Bool.{true}
 use Prim.Native.Nat.{ℕ, _-_, _≤_}
@@ -9,37 +9,46 @@ use borrow.Author.Needs.{needs}
 use borrow.Author.Tests.{not-true, not-false}
 use Rattle.tree.specs.Every.{every}
 use Rattle.tree.proofs.Every.{every-none, every-more, every-fails}
-use Rattle.session.specs.Passes.{near, entry}
+use Rattle.session.specs.Passes.{pairs, entry, side}
 use Rattle.session.proofs.Limits.{entry-read}
-use Rattle.session.proofs.entry.near.Statement.{statement}
-use Rattle.session.proofs.entry.near.Tie as tie
+use Rattle.session.proofs.entry.pairs.Statement.{statement}
+use Rattle.session.proofs.entry.pairs.Tie as tie
 
 abbrev Inv-loop : tie.InvT-loop
-Inv-loop count twice sizes lease cache messages i₀ i =
-    (i ≤ 256) × (every (λ j. entry count j twice (getD sizes j 0) (getD lease j 0) (getD cache j (pos 0)) (getD messages j 0)) i ≡ true)
+Inv-loop count twice down sizes lease cache messages i₀ i =
+    (i ≤ 256) × (every (λ j. entry count j twice (side count down (getD sizes j 0)) (getD lease j 0) (getD cache j (pos 0)) (getD messages j 0)) i ≡ true)
 
 abbrev μ-loop : tie.MeasureT-loop
-μ-loop count twice sizes lease cache messages i₀ i = 256 - i
+μ-loop count twice down sizes lease cache messages i₀ i = 256 - i
 
 -- what the test of the entry at i answers
 module _ (c : tie.After-entry Inv-loop μ-loop) where
   abbrev start : tie.Start Inv-loop μ-loop
-  start = c .before .before .before .before .before .before .before
+  start = c .before .before .before .before .before .before .before .before
 
   abbrev i : ℕ
-  i = c .before .before .before .before .before .before .loop .i
+  i = c .before .before .before .before .before .before .before .loop .i
 
-  told : c .entry .result ≡ entry (start .args .count) i (start .args .twice) (getD (start .args .sizes .now) i 0) (getD (start .args .lease .now) i 0) (getD (start .args .cache .now) i (pos 0)) (getD (start .args .messages .now) i 0)
-  told = c .entry .ensures ∙ entry-read _ _ _ _ _ _ _ (c .before .before .entry-arg3 .given)
+  told : c .entry .result ≡ entry (start .args .count) i (start .args .twice) (side (start .args .count) (start .args .down) (getD (start .args .sizes .now) i 0)) (getD (start .args .lease .now) i 0) (getD (start .args .cache .now) i (pos 0)) (getD (start .args .messages .now) i 0)
+  told = rw (← c .before .before .before .before .side .ensures) (c .entry .ensures ∙ entry-read _ _ _ _ _ _ _ (c .before .before .entry-arg2 .given))
 
 loop-holds : tie.Need-loop-holds Inv-loop μ-loop
 loop-holds c = (omega arith, every-none _)
 
-mul-entry : tie.Need-mul-entry Inv-loop μ-loop
-mul-entry c = omega arith
+mul-side : tie.Need-mul-side Inv-loop μ-loop
+mul-side c = omega arith
+
+element-copy-out-side : tie.Need-element-copy-out-side Inv-loop μ-loop
+element-copy-out-side c = search needs
+
+side-requires : tie.Need-side-requires Inv-loop μ-loop
+side-requires c κs = search needs
 
 element-copy-out-entry : tie.Need-element-copy-out-entry Inv-loop μ-loop
 element-copy-out-entry c = search needs
+
+mul-entry : tie.Need-mul-entry Inv-loop μ-loop
+mul-entry c = omega arith
 
 element-copy-out-entry-2 : tie.Need-element-copy-out-entry-2 Inv-loop μ-loop
 element-copy-out-entry-2 c = search needs
@@ -50,17 +59,11 @@ mul-entry-2 c = omega arith
 element-copy-out-entry-3 : tie.Need-element-copy-out-entry-3 Inv-loop μ-loop
 element-copy-out-entry-3 c = search needs
 
-mul-entry-3 : tie.Need-mul-entry-3 Inv-loop μ-loop
-mul-entry-3 c = omega arith
-
-element-copy-out-entry-4 : tie.Need-element-copy-out-entry-4 Inv-loop μ-loop
-element-copy-out-entry-4 c = search needs
-
 entry-requires : tie.Need-entry-requires Inv-loop μ-loop
 entry-requires c κs = search needs
 
 returns : tie.Need-returns Inv-loop μ-loop
-unfolding near
+unfolding pairs
 returns c = sym (every-fails _ (i (c .before)) 256 (omega arith) (sym (told (c .before)) ∙ not-true _ (c .if1 .taken)))
 
 add-i : tie.Need-add-i Inv-loop μ-loop
@@ -70,26 +73,27 @@ loop-less : tie.Need-loop-less Inv-loop μ-loop
 loop-less c = omega arith
 
 loop-again : tie.Need-loop-again Inv-loop μ-loop
-loop-again c = (omega arith, every-more _ (i (c .before)) (c .before .before .before .before .before .before .before .loop .inv .1) (sym (told (c .before)) ∙ not-false _ (c .if1 .left)))
+loop-again c = (omega arith, every-more _ (i (c .before)) (c .before .before .before .before .before .before .before .before .loop .inv .1) (sym (told (c .before)) ∙ not-false _ (c .if1 .left)))
 
 returns-2 : tie.Need-returns-2 Inv-loop μ-loop
-unfolding near
+unfolding pairs
 returns-2 c = let e : c .before .loop .i ≡ 256 = omega arith in sym (rw e at (c .before .loop .inv .1))
 
-pub near-spec : {M : Type 1} → statement M
-near-spec =
+pub pairs-spec : {M : Type 1} → statement M
+pairs-spec =
     tie.close
     (tie.spec
     Inv-loop
     μ-loop
     loop-holds
-    mul-entry
+    mul-side
+    element-copy-out-side
+    side-requires
     element-copy-out-entry
+    mul-entry
     element-copy-out-entry-2
     mul-entry-2
     element-copy-out-entry-3
-    mul-entry-3
-    element-copy-out-entry-4
     entry-requires
     returns
     add-i
