@@ -4,9 +4,14 @@
 It shares nothing with the crates but document 01's rules.
 `python3 models/cases.py stdin` writes the cases, `python3 models/cases.py stdout` what must be printed; the crate's files of these names are what they wrote."""
 
+import pathlib
 import sys
 
 from sessions import LIMIT, PARTS, Session
+
+sys.dont_write_bytecode = True
+sys.path.append(str(pathlib.Path(__file__).resolve().parent.parent / "tools"))
+import vectors as outside
 
 USABLE = 8 * 65536
 LAST = 2**64 - 1
@@ -292,6 +297,47 @@ def session_served(data, place, room, bytes_of_list):
     return f"session{shown(data)}: 0 {refusal}{words}{holding(session)}"
 
 
+def list_run(data, place, room, places, bytes_of_list):
+    """A whole list in one call; what is lent has a mark in every place."""
+    session = Session(parents_of(data))
+    log, answers = digits(bytes([170])) * room, [7] * places
+    totals = [0, 0, 0, 0, 0]
+    try:
+        asked, refusal = requests_of(bytes_of_list), 0
+        combines = sum(kind == "combine" for kind, *_ in asked)
+        refusal = 10 if places < combines else 0 if session.sound() else 6
+    except Refused as refused:
+        refusal = refused.args[0]
+    if refusal == 0:
+        done = stored = sent = index = 0
+        for ask in asked:
+            refusal, answer, messages, following, log = session.serve(ask, log, place, record)
+            if refusal:
+                index = done
+                break
+            if ask[0] == "combine":
+                answers[stored] = answer
+                stored += 1
+            done, sent, place = done + 1, sent + messages, following
+        totals = [index, done, stored, sent, place]
+    total = 0
+    for answer in answers + [7] * (4096 - places):
+        total = mixed(total, answer % 2**64)
+    left = undigits(log) + bytes([170]) * (65600 - room)
+    return f"run{outcome([refusal, *totals])} answers {total} log{shown(left)}{holding(session)}"
+
+
+def vector(case):
+    """What an outside case says, line by line: each request's log stands behind its line."""
+    logs = {line.split()[0]: f"log {line}" for line in case.get("log.hex", [])}
+    lines = []
+    for index, line in enumerate(case["expected"]):
+        lines.append(line)
+        if str(index) in logs:
+            lines.append(logs[str(index)])
+    return "\n".join(lines)
+
+
 def session_changed(data, part, place, value, bytes_of_list):
     session = Session(parents_of(data))
     words = served(session, requests_of(bytes_of_list), 0, 2423)
@@ -307,6 +353,7 @@ def session_changed(data, part, place, value, bytes_of_list):
         again.count, again.accepted, again.arrays = session.count, session.accepted, session.arrays
         *answers, log = again.serve(ask, log, 0, record)
         words += outcome(answers)
+    words += outcome([0 if sound else 6, 0, 0, 0, 0, 0])
     entry = PARTS.index(part) * 65536 + place
     return f"changed {entry} {encode(value, 64)}:{words}{shown(undigits(log))}"
 
@@ -370,6 +417,14 @@ class Cases:
         data, asked = table_of(parents), list_of(asked)
         entry = PARTS.index(part) * 65536 + at
         self.add("U", session_changed(data, part, at, value, asked), (len(data), entry, encode(value, 64)), data + asked)
+
+    def run(self, parents, asked, place=0, room=65536, places=4096):
+        data, asked = table_of(parents), asked if isinstance(asked, bytes) else list_of(asked)
+        self.add("N", list_run(data, place, room, places, asked), (len(data), place, room + places * 2**32), data + asked)
+
+    def vector(self, case):
+        data, asked = (case.get(name, b"") for name in outside.BYTES)
+        self.add("V", vector(case), (len(data), int("log.hex" in case)), data + asked)
 
     def tree_of(self, count):
         return [self.draw(child) for child in range(1, count)]
@@ -546,9 +601,44 @@ def changed(cases):
         cases.changed(parents, asked, "down cache", 3, value)
 
 
+def runs(cases):
+    """Whole lists: document 01's; empty at any place; answer places to the one; stopped by 7 and by 9, to the bit; the longest rounds."""
+    for parents, asked in (PATH, STAR, ORDER):
+        cases.run(parents, asked)
+    for place, room in ((0, 0), (1, 0), (LAST, 65536), (524288, 65536), (524289, 65600)):
+        cases.run(PATH[0], [], place, room)
+    for places in (0, 2, 3, 4):
+        cases.run(*PATH, places=places)
+        cases.run(*PATH, room=3, places=places)
+    for data in ("", "00", "8008", "000801", "80", "0000ff"):
+        cases.run(PATH[0], bytes.fromhex(data), places=0)
+    whole = 2 * 76 + 2 * 58 + 2 * 58 + 2 * 76 + 2 * 76
+    for place in (0, 1, 7, 8):
+        for room in range((place + whole) // 8 - 1, (place + whole) // 8 + 2):
+            cases.run(*PATH, place, room)
+    for place in (524288 - whole - 1, 524288 - whole, 524288 - whole + 1, 524288, 524289, LAST):
+        cases.run(*PATH, place, 65536)
+        cases.run(*PATH, place, 65600)
+    for index in range(len(STAR[1]) + 1):
+        for node in (4, 255):
+            for ask in (("combine", node), ("write", node, 1)):
+                cases.run(STAR[0], STAR[1][:index] + [ask] + STAR[1][index:])
+    for count in (1, 2, 3, 5, 9, 30):
+        for room in (0, 20, 40, 200, 65536):
+            cases.run(cases.tree_of(count), cases.asked(count, 30), cases.draw(9), room, 30)
+    cases.run([0], [("combine", 0), ("write", 1, 3), ("write", 1, -3)] * 1365)
+
+
+def vectors(cases):
+    """All that the program has room for."""
+    for case in outside.read().values():
+        if sum(len(case.get(name, b"")) for name in outside.BYTES) <= 65600:
+            cases.vector(case)
+
+
 def main():
     cases = Cases()
-    for part in (fields, signs, tables, trees, lists, logs, sessions, changed):
+    for part in (fields, signs, tables, trees, lists, logs, sessions, changed, runs, vectors):
         part(cases)
     if sys.argv[1:] == ["stdin"]:
         sys.stdout.buffer.write(b"".join(cases.data))

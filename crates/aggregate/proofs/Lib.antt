@@ -1,4 +1,4 @@
--- The laws of the two requests as functions, by what they say.
+-- The laws of the functions that serve a session, by what they say.
 pub mod Hitting
 pub mod Paid
 pub mod Raising
@@ -8,4 +8,10 @@ pub mod Ending
 pub mod Verdicts
 pub mod Logging
 pub mod Keeping
+pub mod Runs
+pub mod Wholly
+pub mod Underway
+pub mod Listing
+pub mod Lasting
+pub mod Speaking
 pub mod Outcomes

@@ -1,4 +1,6 @@
--- What a reader must believe of the two requests as functions: what each answers and leaves, and the promises; and what their private parts hand each other.
+-- What a reader must believe of the functions that serve a session: what each answers and leaves, and the promises; and what their private parts hand each other.
 pub mod Serving
+pub mod Running
 pub mod Afters
+pub mod Turns
 pub mod Promises

@@ -1,12 +1,15 @@
--- What is promised of the two requests. The theorem that proves a statement bears its name in small letters.
+-- What is promised of the two requests, and of running a list. The theorem that proves a statement bears its name in small letters.
 use mathlib.Core.Path.{_≡_}
 use mathlib.Core.Logic.{_≢_, _⊎_, _↔_}
-use mathlib.Core.List.{List}
+use mathlib.Core.List.{List, []}
 use Prim.Native.Nat.{ℕ, _+_, _≤_, _<_}
-use lib.ListN.{length}
+use lib.IntN.{ℤ, pos}
+use lib.ListN.{length, take, getD}
 use Rattle.fields.specs.Bits.{bit}
 use Rattle.tree.specs.Operation.{fold, sum}
 use Rattle.messages.specs.Reading.{Reads, countFrom}
+use Rattle.requests.specs.Lists.{combinesIn}
+use Rattle.requests.specs.Reading.{requestsOf, judgedOf}
 use Rattle.requests.specs.declared.Request.{Request}
 use Rattle.requests.specs.declared.Request.the-variants.{Combine}
 use Rattle.session.specs.Holding.{valueOf, Typed}
@@ -16,6 +19,8 @@ use Rattle.mechanism.specs.Requests.{nodeOf, Small, says}
 use Rattle.mechanism.specs.Refusals.{Ruled}
 use Rattle.mechanism.specs.Pairwise.{Right}
 use Rattle.aggregate.specs.Serving.{refused, servedOf, logOf}
+use Rattle.aggregate.specs.Running.{running, start, endedAs, listRefusal, ranOf, answersOf, runLogOf, Whole, Serves, spokenOf}
+use Rattle.aggregate.specs.Running.{refused as refusedList}
 
 -- A request is refused exactly as document 01 says,
 abbrev pub Refused-exactly : Type 0
@@ -59,3 +64,65 @@ Sessions-right = (s : Session) (r : Request) (len place : ℕ) → Typed s → R
 abbrev pub Combine-sums : Type 0
 Combine-sums = (s : Session) (x len place : ℕ) → Typed s → Right sum s → servedOf s (Combine x) len place .outcome .refusal ≡ 0
     → servedOf s (Combine x) len place .outcome .answer ≡ fold sum (valueOf s) (s .tree .count)
+
+-- ---- running a list
+
+-- A list is refused as a whole exactly as document 01 says,
+abbrev pub Whole-exactly : Type 0
+Whole-exactly = (s : Session) (list : List ℕ) (places n : ℕ) → (listRefusal s list places ≡ n) ↔ Whole s list places n
+
+-- with zeros, and the session, the answer places and the log stay as they were.
+abbrev pub Whole-kept : Type 0
+Whole-kept = (s : Session) (list : List ℕ) (answers : List ℤ) (log : List ℕ) (place : ℕ) → 0 < listRefusal s list (length answers)
+    → (ranOf s list answers log place ≡ refusedList (listRefusal s list (length answers)) s) × (answersOf s list answers log place ≡ answers) × (runLogOf s list answers log place ≡ log)
+
+-- Else its requests are served one by one, as combine and write serve them, up to the first that is refused;
+abbrev pub One-by-one : Type 0
+One-by-one = (s : Session) (list : List ℕ) (answers : List ℤ) (log : List ℕ) (place : ℕ) → listRefusal s list (length answers) ≡ 0
+    → Serves (ranOf s list answers log place .refusal)
+    (running (ranOf s list answers log place .totals) (ranOf s list answers log place .session) (answersOf s list answers log place) (runLogOf s list answers log place))
+    (requestsOf list)
+    (start s answers log place)
+
+-- where none is refused all are done, and as many answers are stored as there are combines;
+abbrev pub All-done : Type 0
+All-done = (s : Session) (list : List ℕ) (answers : List ℤ) (log : List ℕ) (place : ℕ) → ranOf s list answers log place .refusal ≡ 0
+    → (ranOf s list answers log place .index ≡ 0) × (ranOf s list answers log place .totals .requests ≡ length (requestsOf list)) × (ranOf s list answers log place .totals .answers ≡ combinesIn (requestsOf list))
+
+-- where one is refused, its index is the number of those done, and what is left is what the list of those alone leaves.
+abbrev pub Stops-midway : Type 0
+Stops-midway = (s : Session) (list earlier : List ℕ) (answers : List ℤ) (log : List ℕ) (place : ℕ) → listRefusal s list (length answers) ≡ 0 → 0 < ranOf s list answers log place .refusal
+    → judgedOf earlier .refusal ≡ 0 → requestsOf earlier ≡ take (ranOf s list answers log place .index) (requestsOf list)
+    → (ranOf s list answers log place .index ≡ ranOf s list answers log place .totals .requests) × (ranOf s list answers log place .index < length (requestsOf list))
+    × (ranOf s earlier answers log place ≡ endedAs 0 (ranOf s list answers log place .totals) (ranOf s list answers log place .session))
+    × (answersOf s earlier answers log place ≡ answersOf s list answers log place)
+    × (runLogOf s earlier answers log place ≡ runLogOf s list answers log place)
+
+-- An empty list looks at no log place.
+abbrev pub Empty-list : Type 0
+Empty-list = (s : Session) (list : List ℕ) (answers : List ℤ) (log : List ℕ) (place : ℕ) → requestsOf list ≡ [] → listRefusal s list (length answers) ≡ 0
+    → (ranOf s list answers log place ≡ endedAs 0 (start s answers log place .totals) s) × (answersOf s list answers log place ≡ answers) × (runLogOf s list answers log place ≡ log)
+
+-- Only the answer places of combines that were done are changed.
+abbrev pub Answers-kept : Type 0
+Answers-kept = (s : Session) (list : List ℕ) (answers : List ℤ) (log : List ℕ) (place k : ℕ) → ranOf s list answers log place .totals .answers ≤ k
+    → (getD (answersOf s list answers log place) k (pos 0) ≡ getD answers k (pos 0)) × (length (answersOf s list answers log place) ≡ length answers)
+
+-- The log reads back as the messages of the requests that were done, one behind the other, to the next place, and the total is the number of those records;
+abbrev pub Run-logged : Type 0
+Run-logged = (s : Session) (list : List ℕ) (answers : List ℤ) (log : List ℕ) (place : ℕ) → Typed s → 0 < ranOf s list answers log place .totals .requests
+    → Reads (runLogOf s list answers log place) place (ranOf s list answers log place .totals .next) (spokenOf s list answers log place)
+    × (ranOf s list answers log place .totals .messages ≡ length (spokenOf s list answers log place))
+    × (ranOf s list answers log place .totals .messages ≡ countFrom (ranOf s list answers log place .totals .next) (runLogOf s list answers log place) place (ranOf s list answers log place .totals .next))
+
+-- the bits before its place and after the last record keep their values, and the log its length.
+abbrev pub Run-outside-kept : Type 0
+Run-outside-kept = (s : Session) (list : List ℕ) (answers : List ℤ) (log : List ℕ) (place k : ℕ) → (k < place) ⊎ (ranOf s list answers log place .totals .next ≤ k)
+    → (bit (runLogOf s list answers log place) k ≡ bit log k) × (length (runLogOf s list answers log place) ≡ length log)
+
+-- A sound session stays sound, and each leased cache stays the sum of its side.
+abbrev pub Run-sound : Type 0
+Run-sound = (s : Session) (list : List ℕ) (answers : List ℤ) (log : List ℕ) (place : ℕ) → Typed s → Sound 2 s → Typed (ranOf s list answers log place .session) × Sound 2 (ranOf s list answers log place .session)
+
+abbrev pub Run-right : Type 0
+Run-right = (s : Session) (list : List ℕ) (answers : List ℤ) (log : List ℕ) (place : ℕ) → Typed s → Right sum s → Right sum (ranOf s list answers log place .session)

@@ -51,6 +51,6 @@ outcomeOf len place z ms =
 unfoldable pub loggedOf : List ℕ → ℕ → List Message → List ℕ
 loggedOf log place ms = cond (room (length log) place ms) (logged log place ms) log
 
--- the refusal of a request before its room is known: n, that of its walk, then 8, then 9 for a place past the usable log
-unfoldable pub judgedOf : ℕ → ℕ → ℕ → ℕ → ℕ
-judgedOf n count len place = cond (eqb n 0) (cond (ltb count limit) (cond (leb place (usableBits len)) 0 9) 8) n
+-- the refusal of a request to a sound session before its room is known: 7, then 8, then 9 for a place past the usable log
+unfoldable pub judgedOf : ℕ → ℕ → ℕ → ℕ → ℕ → ℕ
+judgedOf count accepted x len place = cond (ltb x count) (cond (ltb accepted limit) (cond (leb place (usableBits len)) 0 9) 8) 7

@@ -1,4 +1,5 @@
 // What messages make of a session: each counts at its pair, and becomes its cache.
+use crate::reads;
 ghost use mathlib.Core.Path.{_≡_};
 ghost use Prim.Native.Nat.{_-_, _<_, _≤_};
 ghost use Rattle.session.specs.Soundness.{Sound, limit};
@@ -116,10 +117,10 @@ fn from(message: Message) -> usize
     ensures { λ r. ⌜ (r ≡ spec.fromOf message) × (r < 256) ⌝ }
 {
     match message {
-        Message::Probe(_, b) => node(b),
-        Message::Response(a, _, _) => node(a),
-        Message::Update(a, _, _) => node(a),
-        Message::Release(_, b) => node(b),
+        Message::Probe(_, b) => reads::node(b),
+        Message::Response(a, _, _) => reads::node(a),
+        Message::Update(a, _, _) => reads::node(a),
+        Message::Release(_, b) => reads::node(b),
     }
 }
 
@@ -127,16 +128,9 @@ fn to(message: Message) -> usize
     ensures { λ r. ⌜ (r ≡ spec.toOf message) × (r < 256) ⌝ }
 {
     match message {
-        Message::Probe(a, _) => node(a),
-        Message::Response(_, b, _) => node(b),
-        Message::Update(_, b, _) => node(b),
-        Message::Release(a, _) => node(a),
+        Message::Probe(a, _) => reads::node(a),
+        Message::Response(_, b, _) => reads::node(b),
+        Message::Update(_, b, _) => reads::node(b),
+        Message::Release(a, _) => reads::node(a),
     }
-}
-
-// A node's number as an index.
-pub fn node(x: u8) -> usize
-    ensures { λ r. ⌜ (r ≡ x) × (r < 256) ⌝ }
-{
-    x as usize
 }

@@ -1,5 +1,5 @@
 // A combine raises every pair that points to its node.
-use crate::apply;
+use crate::reads;
 ghost use mathlib.Core.Path.{_≡_};
 ghost use Prim.Native.Nat.{_<_};
 ghost use Rattle.tree.specs.Parents.{InRule};
@@ -39,7 +39,7 @@ fn raise(count: usize, parents: &[u8; 256], x: usize, up: &mut [u8; 256], down: 
         i -= 1;
         if i == at {
             down[i] = Rule::BREAK;
-            at = apply::node(parents[i]);
+            at = reads::node(parents[i]);
         } else {
             up[i] = Rule::BREAK;
         }

@@ -1,72 +1,76 @@
-// What both requests do after their walk.
-use crate::Outcome;
+// One request to a session that is sound.
 use crate::Served;
+use crate::apply;
+use crate::ask;
+use crate::judge;
+use crate::raise;
+use crate::reads;
+use crate::spread;
 ghost use mathlib.Core.Path.{_≡_};
-ghost use mathlib.Core.Bool.{true};
-ghost use Prim.Native.Nat.{_<_, _≤_};
+ghost use Prim.Native.Nat.{_<_};
 ghost use lib.ListN.{length};
-ghost use Rattle.fields.specs.Usable.{usableBits};
-ghost use Rattle.mechanism.specs.Refusals.{allFit};
+ghost use Rattle.requests.specs.declared.Request.the-variants.{Combine, Write};
+ghost use Rattle.session.specs.Soundness.{Sound};
 ghost use Rattle.mechanism.specs.Requests.{valued as valuedBy};
-ghost use Rattle.trace.specs.Traces.{messagesOf};
-ghost use Rattle.aggregate.specs.Serving as spec;
+ghost use Rattle.aggregate.specs.Serving.{servedOf, logOf};
+use requests::Request;
 use session::Session;
 
-// The refusal of a request before its room is known, 0 for none: that of its walk comes first.
-pub fn judged(refusal: u8, accepted: u32, len: usize, place: usize) -> u8
-    ensures { λ r. ⌜ r ≡ spec.judgedOf refusal accepted len place ⌝ }
+// A request of a list.
+pub fn request(session: Session, request: Request, log: &mut [u8], place: usize) -> Served
+    requires { ⌜ Sound 2 session ⌝ }
+    ensures { λ r. ⌜ (r ≡ servedOf session request (length (now (log .entry))) place) × (now (log .exit) ≡ logOf session request (now (log .entry)) place) ⌝ }
 {
+    match request {
+        Request::Combine(x) => combined(session, reads::node(x), log, place),
+        Request::Write(x, value) => written(session, reads::node(x), value, log, place),
+    }
+}
+
+// A combine at x.
+pub fn combined(session: Session, x: usize, log: &mut [u8], place: usize) -> Served
+    requires { ⌜ Sound 2 session ⌝ }
+    ensures { λ r. ⌜ (r ≡ servedOf session (Combine x) (length (now (log .entry))) place) × (now (log .exit) ≡ logOf session (Combine x) (now (log .entry)) place) ⌝ }
+{
+    let refusal = judge::judged(session.tree.count, session.accepted, x, log.len(), place);
     if refusal != 0 {
-        return refusal;
+        return judge::refused(refusal, session);
     }
-    if 1048576 <= accepted {
-        return 8;
+    let mut trace = [0u64; 510];
+    let asked = ask::from(session, x, &mut trace);
+    let outcome = judge::logged(log, place, asked.sum, &trace, asked.len);
+    if outcome.refusal != 0 {
+        return judge::refused(9, session);
     }
-    if fields::usable_bits(len) < place {
-        return 9;
-    }
-    0
-}
-
-// The number of a refusal and zeros, and the session as it came.
-pub fn refused(refusal: u8, session: Session) -> Served
-    ensures { λ r. ⌜ r ≡ spec.refused refusal session ⌝ }
-{
     Served {
-        outcome: Outcome {
-            refusal,
-            answer: 0,
-            messages: 0,
-            next: 0,
-        },
-        session,
+        outcome,
+        session: raise::raised(apply::applied(session, &trace, asked.len), x),
     }
 }
 
-// Logs the messages, if there is room for all of them.
-pub fn logged(log: &mut [u8], place: usize, answer: i64, trace: &[u64; 510], len: usize) -> Outcome
-    requires { ⌜ ((len ≤ 510) × (place ≤ usableBits (length (now log)))) × (allFit (messagesOf (now trace) len) ≡ true) ⌝ }
-    ensures { λ r. ⌜ (r ≡ spec.outcomeOf (length (now (log .entry))) place answer (messagesOf (now (trace .entry)) len)) × (now (log .exit) ≡ spec.loggedOf (now (log .entry)) place (messagesOf (now (trace .entry)) len)) ⌝ }
+// A write of a value at x.
+pub fn written(session: Session, x: usize, value: i32, log: &mut [u8], place: usize) -> Served
+    requires { ⌜ Sound 2 session ⌝ }
+    ensures { λ r. ⌜ (r ≡ servedOf session (Write x value) (length (now (log .entry))) place) × (now (log .exit) ≡ logOf session (Write x value) (now (log .entry)) place) ⌝ }
 {
-    if fields::usable_bits(log.len()) - place < trace::bits(trace, len) {
-        return Outcome {
-            refusal: 9,
-            answer: 0,
-            messages: 0,
-            next: 0,
-        };
+    let refusal = judge::judged(session.tree.count, session.accepted, x, log.len(), place);
+    if refusal != 0 {
+        return judge::refused(refusal, session);
     }
-    let next = trace::record(log, place, trace, len);
-    Outcome {
-        refusal: 0,
-        answer,
-        messages: len as u32,
-        next,
+    let mut trace = [0u64; 510];
+    let len = spread::from(session, x, value, &mut trace);
+    let outcome = judge::logged(log, place, 0, &trace, len);
+    if outcome.refusal != 0 {
+        return judge::refused(9, session);
+    }
+    Served {
+        outcome,
+        session: apply::applied(valued(session, x, value), &trace, len),
     }
 }
 
 // The session with a new value at x.
-pub fn valued(session: Session, x: usize, value: i32) -> Session
+fn valued(session: Session, x: usize, value: i32) -> Session
     requires { ⌜ x < 256 ⌝ }
     ensures { λ r. ⌜ r ≡ valuedBy session x value ⌝ }
 {

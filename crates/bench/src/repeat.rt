@@ -61,7 +61,7 @@ fn mixed(sum: u64, outcome: Outcome) -> u64 {
 }
 
 fn low(answer: i64) -> u64 {
-    let fields::Encoded::Number(n) = fields::encode(answer, 64) else {
+    let twos::Encoded::Number(n) = twos::encode(answer, 64) else {
         return 0;
     };
     n

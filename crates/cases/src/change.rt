@@ -1,9 +1,9 @@
 // Sessions with one entry changed.
-use fields::Decoded;
-use fields::Decoded32;
 use session::Pairs;
 use session::Session;
 use tree::Tree;
+use twos::Decoded;
+use twos::Decoded32;
 
 // The entry is 65536 times the array's number, and the place in it: 0 count, 1 parents, 2 values, 3
 // to 5 lease, cache and messages from child to parent, 6 to 8 from parent to child, 9 accepted.
@@ -57,14 +57,14 @@ fn pairs(pairs: Pairs, array: u64, i: usize, value: u64) -> Pairs {
 
 // The value that 64 bits stand for.
 fn signed(number: u64) -> i64 {
-    let Decoded::Value(value) = fields::decode(number, 64) else {
+    let Decoded::Value(value) = twos::decode(number, 64) else {
         return 0;
     };
     value
 }
 
 fn signed32(number: u64) -> i32 {
-    let Decoded32::Value(value) = fields::decode32(number, 64) else {
+    let Decoded32::Value(value) = twos::decode32(number, 64) else {
         return 0;
     };
     value

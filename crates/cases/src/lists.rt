@@ -86,7 +86,7 @@ fn number(request: Request) -> u64 {
 }
 
 fn bits(value: i32) -> u64 {
-    let fields::Encoded::Number(n) = fields::encode32(value, 32) else {
+    let twos::Encoded::Number(n) = twos::encode32(value, 32) else {
         return 0;
     };
     n

@@ -1,14 +1,14 @@
 // Logs: messages written, and read.
 use crate::show;
-use fields::Decoded;
 use messages::Entry;
 use messages::Message;
 use messages::Written;
+use twos::Decoded;
 
 // A message is written to the log, and read back. Its kind, sender and receiver are b in 2, 8 and 8
 // bits, its value is c in two's complement.
 pub fn write(place: u64, b: u64, c: u64, log: &mut [u8]) {
-    let Decoded::Value(value) = fields::decode(c, 64) else {
+    let Decoded::Value(value) = twos::decode(c, 64) else {
         return;
     };
     let m = message(b / 65536 % 4, (b / 256 % 256) as u8, (b % 256) as u8, value);

@@ -6,9 +6,11 @@ mod input; // reading the cases
 mod lists;
 mod logs;
 mod numbers; // fields and what they stand for
+mod runs; // lists run in one call
 mod sessions;
 mod show; // printing
 mod tables;
+mod vectors; // outside vectors
 
 // As many as are there, at most a million.
 fn main() {
@@ -62,6 +64,12 @@ fn run(letter: u8, a: u64, b: u64, c: u64, bytes: &mut [u8]) {
     }
     if letter == b'U' {
         return sessions::unsound(a, b, c, bytes);
+    }
+    if letter == b'N' {
+        return runs::run(a, b, c, bytes);
+    }
+    if letter == b'V' {
+        return vectors::serve(a, b, bytes);
     }
     show::text(b"no such case\n");
 }

@@ -1,9 +1,9 @@
 // Fields and what they stand for.
 use crate::show;
-use fields::Decoded;
-use fields::Decoded32;
-use fields::Encoded;
 use fields::Field;
+use twos::Decoded;
+use twos::Decoded32;
+use twos::Encoded;
 
 // A number is put into a field of the bytes, and what is in the field is read.
 pub fn field(place: u64, width: u64, value: u64, bytes: &mut [u8]) {
@@ -39,9 +39,9 @@ pub fn sign(number: u64, width: u64) {
     show::number(number);
     show::number(width);
     show::text(b":");
-    decoded(fields::decode(number, width as usize));
-    decoded32(fields::decode32(number, width as usize));
-    encode(fields::decode(number, 64), width as usize);
+    decoded(twos::decode(number, width as usize));
+    decoded32(twos::decode32(number, width as usize));
+    encode(twos::decode(number, 64), width as usize);
     show::end();
 }
 
@@ -63,7 +63,7 @@ fn encode(decoded: Decoded, width: usize) {
     let Decoded::Value(value) = decoded else {
         return;
     };
-    match fields::encode(value, width) {
+    match twos::encode(value, width) {
         Encoded::Number(n) => show::number(n),
         Encoded::Misfit => show::text(b" misfit"),
     }

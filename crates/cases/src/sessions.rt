@@ -1,5 +1,6 @@
 // Sessions: loaded from a table, and the requests of a list served one by one.
 use crate::change;
+use crate::runs;
 use crate::show;
 use aggregate::Served;
 use requests::Item;
@@ -51,7 +52,7 @@ pub fn unsound(table: u64, entry: u64, value: u64, bytes: &[u8]) {
 }
 
 // A session that is to be replaced.
-fn other() -> Session {
+pub fn other() -> Session {
     let tree = Tree {
         count: 2,
         parents: [0; 256],
@@ -100,7 +101,7 @@ fn roomy(session: Session, request: Request, place: usize, room: usize, log: &mu
     asked(session, request, log, place)
 }
 
-fn asked(session: Session, request: Request, log: &mut [u8], place: usize) -> Served {
+pub fn asked(session: Session, request: Request, log: &mut [u8], place: usize) -> Served {
     match request {
         Request::Combine(x) => aggregate::combine(session, x as usize, log, place),
         Request::Write(x, value) => aggregate::write(session, x as usize, value, log, place),
@@ -116,7 +117,7 @@ fn outcome(served: Served) {
 }
 
 // What a session holds: its count of requests, and sums over its arrays.
-fn held(session: Session) {
+pub fn held(session: Session) {
     show::text(b"\n  holds");
     show::number(session.accepted as u64);
     show::number(values(&session.values));
@@ -150,15 +151,15 @@ fn pairs<'a>(lease: &'a [u8; 256], cache: &'a [i64; 256], messages: &'a [u32; 25
     sum
 }
 
-fn bits(value: i64) -> u64 {
-    let fields::Encoded::Number(n) = fields::encode(value, 64) else {
+pub fn bits(value: i64) -> u64 {
+    let twos::Encoded::Number(n) = twos::encode(value, 64) else {
         return 0;
     };
     n
 }
 
 fn bits32(value: i32) -> u64 {
-    let fields::Encoded::Number(n) = fields::encode32(value, 64) else {
+    let twos::Encoded::Number(n) = twos::encode32(value, 64) else {
         return 0;
     };
     n
@@ -179,5 +180,6 @@ fn calls(session: Session) {
     show::bytes(&table);
     outcome(aggregate::combine(session, 0, &mut log, 0));
     outcome(aggregate::write(session, 0, -1, &mut log, 0));
+    runs::totals(aggregate::run(session, &[0, 0], &mut [0; 0], &mut log, 0));
     show::bytes(&log);
 }

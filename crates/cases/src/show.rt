@@ -1,6 +1,6 @@
 // Printing.
-use fields::Encoded;
 use libc::STDOUT_FILENO;
+use twos::Encoded;
 
 pub fn text(text: &[u8]) {
     io::write_all(STDOUT_FILENO, text);
@@ -35,11 +35,11 @@ pub fn flag(yes: bool) {
 
 // A value in decimal, behind a blank.
 pub fn value(value: i64) {
-    signed(fields::encode(value, 64));
+    signed(twos::encode(value, 64));
 }
 
 pub fn value32(value: i32) {
-    signed(fields::encode32(value, 64));
+    signed(twos::encode32(value, 64));
 }
 
 // A value by the 64 bits that stand for it: those of the lower half are the value itself.
@@ -73,6 +73,21 @@ fn hexadecimal(bytes: &[u8]) {
 
 fn pair(x: u8) {
     text(b" ");
+    two(x);
+}
+
+// Bytes in hexadecimal, behind one blank; a dash for none.
+pub fn digits(bytes: &[u8]) {
+    if bytes.len() == 0 {
+        return text(b" -");
+    }
+    text(b" ");
+    for i in 0..bytes.len() {
+        two(bytes[i]);
+    }
+}
+
+fn two(x: u8) {
     io::print_hex(STDOUT_FILENO, wide(x), 2);
 }
 

@@ -7,7 +7,4 @@ pub mod SameBits
 pub mod TwoFields
 pub mod Turns
 pub mod Rooms
-pub mod Signs
-pub mod Misfits
-pub mod RoundTrip
 pub mod Outcomes

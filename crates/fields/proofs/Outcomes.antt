@@ -5,28 +5,12 @@ use Rattle.fields.specs.Outcomes.{OneResult, OneOutcome}
 use Rattle.fields.proofs.room.usable_bits.Reads as usable_bits
 use Rattle.fields.proofs.get.Reads as get
 use Rattle.fields.proofs.put.Reads as put
-use Rattle.fields.proofs.encode.Reads as encode
-use Rattle.fields.proofs.encode32.Reads as encode32
-use Rattle.fields.proofs.decode.Reads as decode
-use Rattle.fields.proofs.decode32.Reads as decode32
 
 pub usable-bits-once : OneResult usable_bits.Post
 usable-bits-once κ a x y s t p q = p ∙ sym q
 
 pub get-once : OneResult get.Post
 get-once κ a x y s t p q = p ∙ sym q
-
-pub encode-once : OneResult encode.Post
-encode-once κ a x y s t p q = p ∙ sym q
-
-pub encode32-once : OneResult encode32.Post
-encode32-once κ a x y s t p q = p ∙ sym q
-
-pub decode-once : OneResult decode.Post
-decode-once κ a x y s t p q = p ∙ sym q
-
-pub decode32-once : OneResult decode32.Post
-decode32-once κ a x y s t p q = p ∙ sym q
 
 pub put-once : OneOutcome put.Post (λ κ s. now (s .0))
 put-once κ a x y s t p q = (p .0 ∙ sym (q .0), p .1 ∙ sym (q .1))

@@ -2,6 +2,5 @@
 pub mod Bits
 pub mod Fields
 pub mod Usable
-pub mod Twos
 pub mod Promises
 pub mod Outcomes

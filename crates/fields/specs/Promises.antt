@@ -1,19 +1,14 @@
--- What is promised of fields and of two's complement, over any width and place. The theorem that proves a statement bears its name in small letters.
+-- What is promised of fields, over any width and place. The theorem that proves a statement bears its name in small letters.
 use mathlib.Core.Path.{_≡_}
 use mathlib.Core.Bool.{true, false}
 use mathlib.Core.Logic.{_⊎_, _↔_}
 use mathlib.Core.List.{List}
 use Prim.Native.Nat.{ℕ, _+_, _*_, _^_, _≤_, _<_}
-use lib.IntN.{ℤ}
 use lib.ListN.{length}
 use Rattle.fields.specs.Bits.{Bytes, bit}
 use Rattle.fields.specs.Fields.{field, putField}
 use Rattle.fields.specs.Usable.{usableBits, takes, fieldAt, putAt, told}
-use Rattle.fields.specs.Twos.{signed, within, encoded, decoded, decoded32}
 use Rattle.fields.specs.declared.Field.the-variants as finding
-use Rattle.fields.specs.declared.Encoded.the-variants as encoding
-use Rattle.fields.specs.declared.Decoded.the-variants as decoding
-use Rattle.fields.specs.declared.Decoded32.the-variants as decoding32
 
 -- A field reads back as it was written.
 abbrev pub Read-back : Type 0
@@ -72,14 +67,3 @@ Taken-is-read = (s : List ℕ) (place w v : ℕ) → takes (length s) place w v 
 
 abbrev pub Refused-is-kept : Type 0
 Refused-is-kept = (s : List ℕ) (place w v : ℕ) → takes (length s) place w v ≡ false → putAt s place w v ≡ s
-
--- A value becomes a number of w bits, two's complement, exactly where that number becomes the value; and so for an i32.
-abbrev pub Round-trip : Type 0
-Round-trip = (w n : ℕ) (z : ℤ) → (encoded w z ≡ encoding.Number n) ↔ (decoded w n ≡ decoding.Value z)
-
-abbrev pub Round-trip32 : Type 0
-Round-trip32 = (w n : ℕ) (z : ℤ) → ((encoded w z ≡ encoding.Number n) × (within 32 z ≡ true)) ↔ (decoded32 w n ≡ decoding32.Value z)
-
--- A number that was read from a field of at least 1 bit stands for a value.
-abbrev pub Read-decodes : Type 0
-Read-decodes = (s : List ℕ) (place w n : ℕ) → 0 < w → fieldAt s place w ≡ finding.Value n → decoded w n ≡ decoding.Value (signed w n)

@@ -43,7 +43,7 @@ pub fn takes(len: usize, place: usize, width: usize, value: u64) -> bool
 }
 
 // Whether a field of width bits has room for value.
-pub fn holds(width: usize, value: u64) -> bool
+fn holds(width: usize, value: u64) -> bool
     requires { ⌜ width ≤ 64 ⌝ }
     ensures { λ r. ⌜ r ≡ ltb value (2 ^ width) ⌝ }
 {
@@ -54,7 +54,7 @@ pub fn holds(width: usize, value: u64) -> bool
 }
 
 // 2 to the n.
-pub fn power(n: usize) -> u64
+fn power(n: usize) -> u64
     requires { ⌜ n < 64 ⌝ }
     ensures { λ r. ⌜ r ≡ 2 ^ n ⌝ }
 {

@@ -7,7 +7,7 @@ use native.Mathlib.Omega.{arith}
 use lib.Dec.{eqb}
 use lib.IntN.{ℤ, +ℤ-idr}
 use borrow.Author.Tests.{eqb-false, not-true}
-use Rattle.fields.specs.Twos.{within}
+use Rattle.twos.specs.Twos.{within}
 use Rattle.tree.specs.Sizes.{size}
 use Rattle.tree.specs.Ranges.{Range}
 use Rattle.tree.proofs.Ranges.{range-adds, range-fits}

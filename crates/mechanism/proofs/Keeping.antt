@@ -9,7 +9,7 @@ use lib.IntN.{ℤ, pos}
 use lib.ListN.{set, length-set}
 use lib.Seq.{getD-set-other}
 use borrow.Author.Tests.{eqb-false, not-true}
-use Rattle.fields.specs.Twos.{within}
+use Rattle.twos.specs.Twos.{within}
 use Rattle.tree.specs.Operation.{Op}
 use Rattle.tree.specs.Sides.{side}
 use Rattle.tree.specs.Sizes.{size}

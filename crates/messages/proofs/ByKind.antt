@@ -5,7 +5,7 @@ use Prim.Native.Nat.{ℕ, _+_}
 use lib.IntN.{ℤ}
 use borrow.Author.Tests.{ne-eqb}
 use Rattle.fields.specs.Fields.{field}
-use Rattle.fields.specs.Twos.{signed}
+use Rattle.twos.specs.Twos.{signed}
 use Rattle.messages.specs.Reading.{messageOf, messageAt}
 use Rattle.messages.specs.declared.Message.the-variants.{Probe, Response, Update, Release}
 

@@ -1,4 +1,4 @@
--- The parts of a record, as `fields` finds, decodes and encodes them.
+-- The parts of a record, as `fields` finds them and `twos` decodes and encodes them.
 use mathlib.Core.Path.{_≡_, refl}
 use mathlib.Core.Bool.{Bool, true, false, cond}
 use mathlib.Core.List.{List}
@@ -12,16 +12,16 @@ use mir.Syntax.{w64}
 use mir.Val.{toZ, ofZ}
 use Rattle.fields.specs.Fields.{field}
 use Rattle.fields.specs.Usable.{usableBits, fieldAt}
-use Rattle.fields.specs.Twos.{twos, signed, wide, within, encodes, encoded, decoded}
 use Rattle.fields.specs.declared.Field.{Field}
 use Rattle.fields.specs.declared.Field.the-variants as finding
-use Rattle.fields.specs.declared.Encoded.{Encoded}
-use Rattle.fields.specs.declared.Encoded.the-variants as encoding
-use Rattle.fields.specs.declared.Decoded.{Decoded}
-use Rattle.fields.specs.declared.Decoded.the-variants as decoding
 use Rattle.fields.proofs.ReadBack.{field-lt}
 use Rattle.fields.proofs.Rooms.{there}
-use Rattle.fields.proofs.Misfits.{decodes-there}
+use Rattle.twos.specs.Twos.{twos, signed, wide, within, encodes, encoded, decoded}
+use Rattle.twos.specs.declared.Encoded.{Encoded}
+use Rattle.twos.specs.declared.Encoded.the-variants as encoding
+use Rattle.twos.specs.declared.Decoded.{Decoded}
+use Rattle.twos.specs.declared.Decoded.the-variants as decoding
+use Rattle.twos.proofs.Misfits.{decodes-there}
 
 -- the number of a field that lies in the usable log
 abbrev pub numberIn : Field → ℕ

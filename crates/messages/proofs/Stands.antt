@@ -8,10 +8,10 @@ use lib.IntN.{ℤ}
 use lib.Signed.{mag}
 use borrow.Author.Tests.{lt-ltb, ltb-true}
 use Rattle.fields.specs.Fields.{field}
-use Rattle.fields.specs.Twos.{twos, signed, within}
 use Rattle.fields.proofs.ReadBack.{field-lt}
-use Rattle.fields.proofs.Signs.{signed-twos, twos-signed, signed-mag}
 use Rattle.fields.proofs.TwoFields.{read-two}
+use Rattle.twos.specs.Twos.{twos, signed, within}
+use Rattle.twos.proofs.Signs.{signed-twos, twos-signed, signed-mag}
 use Rattle.messages.specs.Records.{kindOf, widthOf, bitsOf, headOf, recordOf, Sized}
 use Rattle.messages.specs.Reading.{messageOf, messageAt}
 use Rattle.messages.specs.declared.Message.{Message}

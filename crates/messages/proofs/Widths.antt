@@ -7,8 +7,8 @@ use lib.Dec.{eqb}
 use lib.IntN.{ℤ}
 use lib.Signed.{mag}
 use borrow.Author.Tests.{ne-eqb, ltb-true}
-use Rattle.fields.specs.Twos.{twos, within}
-use Rattle.fields.proofs.Signs.{twos-lt}
+use Rattle.twos.specs.Twos.{twos, within}
+use Rattle.twos.proofs.Signs.{twos-lt}
 use Rattle.messages.specs.Records.{kindOf, widthOf, recordOf}
 use Rattle.messages.specs.Promises.{Record-fits}
 use Rattle.messages.specs.declared.Message.the-variants.{Probe, Response, Update, Release}

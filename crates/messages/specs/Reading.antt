@@ -7,8 +7,8 @@ use lib.Dec.{eqb, leb}
 use lib.IntN.{ℤ}
 use lib.ListN.{length}
 use Rattle.fields.specs.Fields.{field}
-use Rattle.fields.specs.Twos.{signed}
 use Rattle.fields.specs.Usable.{usableBits}
+use Rattle.twos.specs.Twos.{signed}
 use Rattle.messages.specs.Records.{widthOf}
 use Rattle.messages.specs.declared.Message.{Message}
 use Rattle.messages.specs.declared.Message.the-variants.{Probe, Response, Update, Release}

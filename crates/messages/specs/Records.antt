@@ -4,7 +4,7 @@ use mathlib.Core.Bool.{Bool, true, cond, _||_}
 use mathlib.Core.List.{List, [], _∷_}
 use Prim.Native.Nat.{ℕ, _+_, _*_, _^_, _<_}
 use lib.Dec.{eqb}
-use Rattle.fields.specs.Twos.{twos, within}
+use Rattle.twos.specs.Twos.{twos, within}
 use Rattle.messages.specs.declared.Message.{Message}
 use Rattle.messages.specs.declared.Message.the-variants.{Probe, Response, Update, Release}
 

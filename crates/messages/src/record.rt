@@ -6,7 +6,7 @@ ghost use lib.Dec.{leb};
 ghost use lib.ListN.{length};
 ghost use Rattle.fields.specs.Fields.{field};
 ghost use Rattle.fields.specs.Usable.{usableBits};
-ghost use Rattle.fields.specs.Twos.{twos, signed, within};
+ghost use Rattle.twos.specs.Twos.{twos, signed, within};
 ghost use Rattle.messages.specs.Records.{widthOf, kindOf, bitsOf, headOf, recordOf, fits};
 ghost use Rattle.messages.specs.Reading.{messageAt};
 use crate::Message;
@@ -122,9 +122,9 @@ fn value(log: &[u8], place: usize) -> i64
     requires { ⌜ place + 40 ≤ usableBits (length (now log)) ⌝ }
     ensures { λ r. ⌜ r ≡ signed 40 (field (now (log .entry)) place 40) ⌝ }
 {
-    match fields::decode(part(log, place, 40), 40) {
-        fields::Decoded::Value(z) => z,
-        fields::Decoded::Misfit => 0,
+    match twos::decode(part(log, place, 40), 40) {
+        twos::Decoded::Value(z) => z,
+        twos::Decoded::Misfit => 0,
     }
 }
 
@@ -141,9 +141,9 @@ fn with_value(head: u64, value: i64) -> u64
     requires { ⌜ (head < 262144) × (within 40 value ≡ true) ⌝ }
     ensures { λ r. ⌜ r ≡ head * 2 ^ 40 + twos 40 value ⌝ }
 {
-    match fields::encode(value, 40) {
-        fields::Encoded::Number(n) => head * 1099511627776 + n,
-        fields::Encoded::Misfit => 0,
+    match twos::encode(value, 40) {
+        twos::Encoded::Number(n) => head * 1099511627776 + n,
+        twos::Encoded::Misfit => 0,
     }
 }
 
@@ -151,8 +151,8 @@ fn with_value(head: u64, value: i64) -> u64
 fn encodes(value: i64) -> bool
     ensures { λ r. ⌜ r ≡ within 40 value ⌝ }
 {
-    match fields::encode(value, 40) {
-        fields::Encoded::Number(_) => true,
-        fields::Encoded::Misfit => false,
+    match twos::encode(value, 40) {
+        twos::Encoded::Number(_) => true,
+        twos::Encoded::Misfit => false,
     }
 }

@@ -7,10 +7,10 @@ use native.Mathlib.Omega.{arith}
 use lib.Signed.{mag}
 use borrow.Author.Tests.{lt-ltb, ltb-true, eqb-true, eqb-false, eq-eqb, ne-eqb}
 use Rattle.fields.specs.Fields.{field}
-use Rattle.fields.specs.Twos.{twos, signed}
 use Rattle.fields.proofs.ReadBack.{field-lt}
 use Rattle.fields.proofs.TwoFields.{read-two}
-use Rattle.fields.proofs.Signs.{twos-lt, signed-twos, twos-signed, signed-mag}
+use Rattle.twos.specs.Twos.{twos, signed}
+use Rattle.twos.proofs.Signs.{twos-lt, signed-twos, twos-signed, signed-mag}
 use Rattle.requests.specs.Lists.{Sized, partOf}
 use Rattle.requests.specs.Reading.{isCombine, requestAt, after}
 use Rattle.requests.specs.declared.Request.{Request}

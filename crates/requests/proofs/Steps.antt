@@ -8,15 +8,15 @@ use lib.IntN.{ℤ}
 use lib.Signed.{mag}
 use borrow.Author.Tests.{lt-ltb, eq-eqb, ne-eqb}
 use Rattle.fields.specs.Fields.{field}
-use Rattle.fields.specs.Twos.{signed, decoded32}
 use Rattle.fields.specs.Usable.{fieldAt}
 use Rattle.fields.specs.declared.Field.{Field}
 use Rattle.fields.specs.declared.Field.the-variants as finding
-use Rattle.fields.specs.declared.Decoded32.the-variants as decoding
 use Rattle.fields.proofs.ReadBack.{field-lt}
 use Rattle.fields.proofs.Rooms.{found, cut-off}
-use Rattle.fields.proofs.RoundTrip.{read-decodes}
-use Rattle.fields.proofs.Signs.{signed-mag}
+use Rattle.twos.specs.Twos.{signed, decoded32}
+use Rattle.twos.specs.declared.Decoded32.the-variants as decoding
+use Rattle.twos.proofs.RoundTrip.{read-decodes}
+use Rattle.twos.proofs.Signs.{signed-mag}
 use Rattle.requests.specs.Reading.{requestAt, itemAt}
 use Rattle.requests.specs.declared.Request.the-variants.{Combine, Write}
 use Rattle.requests.specs.declared.Item.the-variants.{Found, Short}

@@ -6,8 +6,8 @@ use Prim.Native.Nat.{ℕ, zero, suc, _+_, _*_}
 use lib.Dec.{eqb, leb}
 use lib.ListN.{length}
 use Rattle.fields.specs.Fields.{field}
-use Rattle.fields.specs.Twos.{signed}
 use Rattle.fields.specs.Usable.{usableBits}
+use Rattle.twos.specs.Twos.{signed}
 use Rattle.packed.specs.Parts.{ends}
 use Rattle.requests.specs.Lists.{oneIfCombine}
 use Rattle.requests.specs.declared.Request.{Request}

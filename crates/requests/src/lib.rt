@@ -64,7 +64,7 @@ pub fn request_at(list: &[u8], place: usize) -> Item
     let fields::Field::Value(number) = fields::get(list, place + 9, 32) else {
         return Item::Short;
     };
-    let fields::Decoded32::Value(value) = fields::decode32(number, 32) else {
+    let twos::Decoded32::Value(value) = twos::decode32(number, 32) else {
         return Item::Short;
     };
     Item::Found(Request::Write(node as u8, value), place + 41)

@@ -13,7 +13,7 @@ use denote.Laws.{Is}
 use denote.Shadow.{shadow}
 use denote.Struct.Declared.{row}
 use denote.Struct.Field.{Field, array-field, u8-field, i32-field, i64-field, u32-field}
-use Rattle.fields.specs.Twos.{within}
+use Rattle.twos.specs.Twos.{within}
 use Rattle.session.specs.Holding.{Typed, Long}
 use Rattle.session.specs.declared.Pairs.{Pairs}
 use Rattle.session.specs.declared.Session.{Session}

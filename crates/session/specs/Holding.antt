@@ -6,7 +6,7 @@ use Prim.Native.Nat.{ℕ}
 use lib.Dec.{ltb}
 use lib.IntN.{ℤ, pos}
 use lib.ListN.{getD, length}
-use Rattle.fields.specs.Twos.{within}
+use Rattle.twos.specs.Twos.{within}
 use Rattle.session.specs.declared.Pairs.{Pairs}
 use Rattle.session.specs.declared.Session.{Session}
 

@@ -7,12 +7,12 @@ use lib.Dec.{ltb}
 use lib.IntN.{ℤ, pos}
 use lib.Signed.{mag}
 use borrow.Author.Tests.{ne-eqb, lt-ltb, ltb-true}
-use Rattle.fields.specs.Twos.{twos, signed, wide, within, encodes, decodes, encoded}
-use Rattle.fields.specs.Twos as fields
-use Rattle.fields.specs.declared.Encoded.{Encoded}
-use Rattle.fields.specs.declared.Encoded.the-variants as encoding
-use Rattle.fields.specs.declared.Decoded.the-variants as decoding
-use Rattle.fields.proofs.Signs.{signed-twos}
+use Rattle.twos.specs.Twos.{twos, signed, wide, within, encodes, decodes, encoded}
+use Rattle.twos.specs.Twos as Twos
+use Rattle.twos.specs.declared.Encoded.{Encoded}
+use Rattle.twos.specs.declared.Encoded.the-variants as encoding
+use Rattle.twos.specs.declared.Decoded.the-variants as decoding
+use Rattle.twos.proofs.Signs.{signed-twos}
 use Rattle.messages.specs.declared.Message.the-variants.{Probe, Response, Update, Release}
 use Rattle.messages.proofs.Parts.{valueIn}
 use Rattle.messages.proofs.Widths.{value-lt}
@@ -41,8 +41,8 @@ low-lt z = go (within 40 z) refl
     go false e = omega arith
 
 -- the value of 40 bits, by what decoding answers
-pub value-decoded : (n : ℕ) → valueIn (fields.decoded 40 n) ≡ value n
-unfolding value fields.decoded decodes wide
+pub value-decoded : (n : ℕ) → valueIn (Twos.decoded 40 n) ≡ value n
+unfolding value Twos.decoded decodes wide
 value-decoded n = go (ltb n 1099511627776)
   where
     go : (b : Bool) → valueIn (cond b (decoding.Value (signed 40 n)) decoding.Misfit) ≡ cond b (signed 40 n) (pos 0)

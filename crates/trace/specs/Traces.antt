@@ -5,7 +5,7 @@ use Prim.Native.Nat.{ℕ, zero, suc, _+_, _*_, _/_, _%_, min}
 use lib.Dec.{eqb, ltb}
 use lib.IntN.{ℤ, pos}
 use lib.ListN.{getD, set, length}
-use Rattle.fields.specs.Twos.{twos, signed, within}
+use Rattle.twos.specs.Twos.{twos, signed, within}
 use Rattle.messages.specs.Writing.{writtenOf, logAfter}
 use Rattle.messages.specs.declared.Message.{Message}
 use Rattle.messages.specs.declared.Message.the-variants.{Probe, Response, Update, Release}

@@ -27,7 +27,7 @@ fn number(kind: u64, a: u8, b: u8, low: u64) -> u64
 fn low(z: i64) -> u64
     ensures { λ r. ⌜ (r ≡ spec.low z) × (r < 1099511627776) ⌝ }
 {
-    let fields::Encoded::Number(n) = fields::encode(z, 40) else {
+    let twos::Encoded::Number(n) = twos::encode(z, 40) else {
         return 0;
     };
     n
@@ -37,7 +37,7 @@ fn low(z: i64) -> u64
 pub fn value(low: u64) -> i64
     ensures { λ r. ⌜ r ≡ spec.value low ⌝ }
 {
-    let fields::Decoded::Value(z) = fields::decode(low, 40) else {
+    let twos::Decoded::Value(z) = twos::decode(low, 40) else {
         return 0;
     };
     z

@@ -7,7 +7,7 @@ use lib.Dec.{leb, ltb, leb·zero, leb·suc-zero, leb·suc-suc}
 use lib.IntN.{ℤ, pos, negsuc, negℤ, subℕ, _+ℤ_}
 use lib.Signed.{leZ, mag}
 use borrow.Author.Tests.{leb-true, ltb-true, le-leb, lt-ltb, le-ltb}
-use Rattle.fields.specs.Twos.{within}
+use Rattle.twos.specs.Twos.{within}
 use Rattle.tree.specs.Operation.{pick, plus, sum}
 use Rattle.tree.specs.Ranges.{inRange, Range}
 use Rattle.tree.specs.Promises.{Range-of-one, Range-adds, Range-of-nodes, Range-fits}

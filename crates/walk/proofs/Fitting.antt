@@ -8,7 +8,7 @@ use lib.Signed.{mag}
 use mir.Syntax.{w64}
 use mir.Val.{SFits}
 use borrow.Author.Tests.{ltb-true}
-use Rattle.fields.specs.Twos.{within}
+use Rattle.twos.specs.Twos.{within}
 use Rattle.tree.specs.Operation.{sum}
 use Rattle.session.specs.Holding.{Typed}
 use Rattle.session.specs.Soundness.{Sound}

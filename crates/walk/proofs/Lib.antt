@@ -13,5 +13,3 @@ pub mod Reaching
 pub mod Coming
 pub mod Sends
 pub mod Starting
-pub mod Admitting
-pub mod Outcomes

@@ -1,7 +1,5 @@
--- What a reader must believe of the walks: what each answers and leaves, and the promises; and what their private parts hand each other.
-pub mod Walking
+-- What the functions of the walks hand each other: links, what a combine's walk asks for and leaves, what comes after each neighbour, and a write's walk.
 pub mod Links
 pub mod Asking
 pub mod Laters
 pub mod Telling
-pub mod Promises

@@ -1,138 +1,36 @@
--- `combine` meets its contract: the walk is made, and unless it is refused its messages are logged and applied.
-use mathlib.Core.Path.{_≡_, ap, ap₂, _∙_}
-use Prim.Native.Nat.{ℕ}
-use lib.ListN.{length, replicate, length-replicate}
+-- `combine` meets its contract: a session that is sound is served.
+use mathlib.Core.Path.{sym, _∙_}
 use borrow.Author.Needs.{needs}
-use Rattle.tree.specs.Operation.{sum}
-use Rattle.messages.proofs.Parts.{handed-on}
-use Rattle.requests.specs.declared.Request.{Request}
+use borrow.Author.Tests.{not-true, not-false}
 use Rattle.requests.specs.declared.Request.the-variants.{Combine}
-use Rattle.session.specs.declared.Session.{Session}
-use Rattle.session.proofs.Typing.{typed}
-use Rattle.mechanism.specs.Requests.{says}
-use Rattle.mechanism.specs.Refusals.{allFit}
-use Rattle.walk.specs.Walking.{walkedOf, tracedOf}
-use Rattle.aggregate.specs.Serving.{outcomeOf, loggedOf}
-use Rattle.aggregate.proofs.Judging.{Ready}
-use Rattle.aggregate.proofs.Ending.{Spoken, spoken, ends-early, goes-on, ends-full, ends-well, combined}
+use Rattle.session.proofs.Soundly.{sound-exactly}
+use Rattle.aggregate.proofs.Ending.{ends-unsound}
 use Rattle.aggregate.proofs.combine.Statement.{statement}
 use Rattle.aggregate.proofs.combine.Tie as tie
 
--- the request
-abbrev asked : tie.Start → Request
-asked s = Combine (s .args .x)
-
--- what the walk answers and leaves
-module _ (w : tie.After-combine) where
-  abbrev start : tie.Start
-  start = w .before .before .before
-
-  walks : (w .combine .result ≡ walkedOf (start .args .session) (asked start) (replicate 510 0)) × (w .combine .last .1 .1 .0 ≡ tracedOf (start .args .session) (asked start) (replicate 510 0))
-  walks = (w .combine .ensures)
-
--- past the tests
-module _ (e : tie.Else1) where
-  abbrev walk : tie.After-combine
-  walk = e .before .before
-
-  abbrev began : tie.Start
-  began = start walk
-
-  may : Ready (began .args .session) (began .args .x) (length (began .args .log .now)) (began .args .place)
-  may = goes-on (began .args .session) (asked began) (began .args .log .now) (began .args .place) _ _ (walks walk .0) _ (e .before .judged .ensures) (e .if1 .left)
-
-  said : Spoken (began .args .session) (asked began) (walk .combine .result) (walk .combine .last .1 .1 .0)
-  said =
-      spoken (began .args .session) (asked began) _ (replicate 510 0) _ (typed (began .args .session) _ (began .good .0)) tt may
-      (length-replicate {A = ℕ} 510 0) (walks walk .0) (walks walk .1)
-
--- what was answered and logged
-module _ (l : tie.After-logged) where
-  abbrev there : tie.Else1
-  there = l .before .before .before .before
-
-  abbrev first : tie.Start
-  first = began there
-
-  told : l .logged .result ≡ outcomeOf (length (first .args .log .now)) (first .args .place) (says sum (first .args .session) (asked first) .sum) (says sum (first .args .session) (asked first) .log)
-  told =
-      l .logged .ensures .0
-      ∙ ap₂ (outcomeOf (length (first .args .log .now)) (first .args .place)) (handed-on (walk there .combine .result .sum) (l .before .struct-told .given .1 .0 .1) ∙ said there .sums) (said there .holds)
-
-  logs : l .logged .last .0 ≡ loggedOf (first .args .log .now) (first .args .place) (says sum (first .args .session) (asked first) .log)
-  logs = l .logged .ensures .1 ∙ ap (loggedOf (first .args .log .now) (first .args .place)) (said there .holds)
-
-combine-requires : tie.Need-combine-requires
-combine-requires c κs = search needs
-
-judged-requires : tie.Need-judged-requires
-judged-requires c κs = search needs
+is-sound-requires : tie.Need-is-sound-requires
+is-sound-requires c κs = search needs
 
 refused-requires : tie.Need-refused-requires
 refused-requires c κs = search needs
 
 returns : tie.Need-returns
 returns c =
-    let w = c .before .before .before in
-    let s = start w in
-    let e = ends-early (s .args .session) (asked s) (s .args .log .now) (s .args .place) _ _ (walks w .0) _ (c .before .before .judged .ensures) (c .before .if1 .taken) in
+    let i = c .before .before in
+    let s = i .before .before in
+    let e = ends-unsound (s .args .session) (Combine (s .args .x)) (s .args .log .now) (s .args .place) (sym (i .is-sound .ensures) ∙ not-true _ (c .before .if1 .taken)) in
     (c .refused .ensures ∙ e .0, e .1)
 
-logged-requires : tie.Need-logged-requires
-logged-requires c κs =
-    let e = c .before .before .before in
-    ((said e .few, may e .placed), ap allFit (said e .holds) ∙ said e .fit)
-
-refused-requires-2 : tie.Need-refused-requires-2
-refused-requires-2 c κs = search needs
+combined-requires : tie.Need-combined-requires
+combined-requires c κs = let i = c .before .before in sound-exactly 2 (i .before .before .args .session) .0 (sym (i .is-sound .ensures) ∙ not-false _ (c .before .if1 .left))
 
 same-length : tie.Need-same-length
 same-length c = search needs
 
 returns-2 : tie.Need-returns-2
-returns-2 c =
-    let l = c .before .before .before .before .before in
-    let s = first l in
-    let e = ends-full (s .args .session) (asked s) (s .args .log .now) (s .args .place) (may (there l)) (said (there l) .fit) (l .logged .result) (told l) (c .before .if2 .taken) in
-    (c .refused2 .ensures ∙ e .0, logs l ∙ e .1)
-
-applied-requires : tie.Need-applied-requires
-applied-requires c κs =
-    let e = there (c .before .before .before .before .before) in
-    (said e .few, (may e .holds, may e .free))
-
-raised-requires : tie.Need-raised-requires
-raised-requires c κs =
-    let e = there (c .before .before .before .before .before .before) in
-    rw (c .applied .ensures) (may e .holds .tree-in-rule, may e .inside)
-
-same-length-2 : tie.Need-same-length-2
-same-length-2 c = search needs
-
-returns-3 : tie.Need-returns-3
-returns-3 c =
-    let l = c .before .before .before .before .before .before .before in
-    let s = first l in
-    let e = ends-well (s .args .session) (asked s) (s .args .log .now) (s .args .place) (may (there l)) (said (there l) .fit) (l .logged .result) (told l) (c .before .before .before .if2 .left) in (
-      ap (λ (o : Session). record { outcome = l .logged .result; session = o })
-          (c .raised .ensures ∙ combined (s .args .session) (c .before .applied .result) (s .args .x) _ (said (there l) .holds) (c .before .applied .ensures))
-          ∙ e .0,
-      logs l ∙ e .1,
-    )
+returns-2 c = search needs
 
 pub combine-spec : {M : Type 1} → statement M
 combine-spec =
     tie.close
-    (tie.spec
-    combine-requires
-    judged-requires
-    refused-requires
-    returns
-    logged-requires
-    refused-requires-2
-    same-length
-    returns-2
-    applied-requires
-    raised-requires
-    same-length-2
-    returns-3)
+    (tie.spec is-sound-requires refused-requires returns combined-requires same-length returns-2)

@@ -2,7 +2,7 @@
 use mathlib.Core.Path.{sym, ap, _∙_}
 use native.Mathlib.Omega.{arith}
 use borrow.Author.Needs.{needs}
-use Rattle.fields.specs.Twos.{twos}
+use Rattle.twos.specs.Twos.{twos}
 use Rattle.messages.specs.Records.{fits, kindOf, widthOf, recordOf}
 use Rattle.messages.proofs.Parts.{handed-on}
 use Rattle.messages.proofs.Widths.{value-lt}

@@ -6,8 +6,8 @@ use mir.Facts.{toZ-ofZ}
 use mir.Syntax.{w64}
 use mir.Val.{toZ, ofZ}
 use borrow.Author.Needs.{needs}
-use Rattle.fields.specs.Twos.{twos, encoded}
-use Rattle.fields.specs.declared.Encoded.{Encoded}
+use Rattle.twos.specs.Twos.{twos, encoded}
+use Rattle.twos.specs.declared.Encoded.{Encoded}
 use Rattle.messages.proofs.Parts.{behind, value-behind}
 use Rattle.messages.proofs.Widths.{value-lt}
 use Rattle.messages.proofs.record.with_value.Statement.{statement}

@@ -5,8 +5,8 @@ use mir.Facts.{toZ-ofZ}
 use mir.Syntax.{w64}
 use mir.Val.{toZ, ofZ}
 use borrow.Author.Needs.{needs}
-use Rattle.fields.specs.Twos.{encoded}
-use Rattle.fields.specs.declared.Encoded.{Encoded}
+use Rattle.twos.specs.Twos.{encoded}
+use Rattle.twos.specs.declared.Encoded.{Encoded}
 use Rattle.trace.specs.Traces.{low}
 use Rattle.trace.proofs.Coding.{lowIn, low-found, low-lt}
 use Rattle.trace.proofs.code.low.Statement.{statement}

@@ -1,0 +1,148 @@
+-- `later::of` meets its contract: the nodes from i on are passed.
+use mathlib.Core.Path.{_≡_, ap, _∙_}
+use Prim.Native.Nat.{_-_}
+use native.Mathlib.Omega.{arith}
+use lib.IntN.{pos}
+use lib.ListN.{getD}
+use mir.Syntax.{w64}
+use mir.Val.{toZ, ofZ}
+use borrow.Author.Needs.{needs}
+use borrow.Author.Tests.{lt-ltb}
+use Rattle.session.specs.Holding.{pairAt}
+use Rattle.mechanism.specs.Views.{View, viewOf}
+use Rattle.messages.proofs.Parts.{handed-on}
+use Rattle.walk.specs.Laters.{knownBy, known}
+use Rattle.walk.proofs.Passes.{Passes, Turning, passes-none, parent-less, due-fits, passes-on, passes-off, passed-all}
+use Rattle.aggregate.proofs.later.of.Statement.{statement}
+use Rattle.aggregate.proofs.later.of.Tie as tie
+
+abbrev Inv-loop : tie.InvT-loop
+Inv-loop count parents values up-lease up-cache down-lease down-cache x up₀ down₀ at₀ i₀ up down at i =
+    Passes (viewOf count parents values up-lease up-cache down-lease down-cache) x up down at i
+
+abbrev μ-loop : tie.MeasureT-loop
+μ-loop count parents values up-lease up-cache down-lease down-cache x up₀ down₀ at₀ i₀ up down at i = i
+
+-- what is known in the turn of a node, whose parent is known
+module _ (c : tie.After-down Inv-loop μ-loop) where
+  abbrev loop : tie.At-loop Inv-loop μ-loop
+  loop = c .before .before .before .before
+
+  abbrev view : View
+  view =
+      let a = loop .before .args in
+      viewOf (a .count) (a .parents .now) (a .values .now) (a .up-lease .now) (a .up-cache .now) (a .down-lease .now) (a .down-cache .now)
+
+  turning : Turning view (loop .before .args .x) (loop .loop .up) (loop .loop .down) (loop .loop .at) (loop .loop .i) (loop .loop .i - 1) (c .before .node .result)
+  turning = record { passing = loop .before .pre; before = loop .loop .inv; next = omega arith; some = omega arith; is = c .before .node .ensures .0 }
+
+  held : toZ w64 (ofZ w64 (getD (loop .loop .up) (c .before .node .result) (pos 0))) ≡ getD (loop .loop .up) (c .before .node .result) (pos 0)
+  held = handed-on _ (c .down .given)
+
+-- what the parent knows of the node stands at the node
+module _ (c : tie.After-known Inv-loop μ-loop) where
+  abbrev down : tie.After-down Inv-loop μ-loop
+  down = c .before .before .before .before .before
+
+  knows : c .known .result ≡ known (view down) (loop down .loop .i - 1) (down .before .node .result)
+  unfolding pairAt
+  knows = rw (lt-ltb _ _ (parent-less (turning down))) (c .known .ensures ∙ ap (knownBy _) (handed-on _ (c .before .known-arg2 .given)))
+
+loop-holds : tie.Need-loop-holds Inv-loop μ-loop
+loop-holds c = passes-none (c .pre)
+
+sub-i : tie.Need-sub-i Inv-loop μ-loop
+sub-i c = search needs
+
+element-copy-out-node : tie.Need-element-copy-out-node Inv-loop μ-loop
+element-copy-out-node c = search needs
+
+node-requires : tie.Need-node-requires Inv-loop μ-loop
+node-requires c κs = search needs
+
+mul-down : tie.Need-mul-down Inv-loop μ-loop
+mul-down c = search needs
+
+array-copy-out-down : tie.Need-array-copy-out-down Inv-loop μ-loop
+array-copy-out-down c = search needs
+
+mul-down-2 : tie.Need-mul-down-2 Inv-loop μ-loop
+mul-down-2 c = search needs
+
+array-set-from-down : tie.Need-array-set-from-down Inv-loop μ-loop
+array-set-from-down c = search needs
+
+loop-less : tie.Need-loop-less Inv-loop μ-loop
+loop-less c = search needs
+
+loop-again : tie.Need-loop-again Inv-loop μ-loop
+loop-again c = rw (held (c .before)) (passes-on (turning (c .before)) (c .if1 .taken))
+
+mul-plus : tie.Need-mul-plus Inv-loop μ-loop
+mul-plus c = search needs
+
+array-copy-out-plus : tie.Need-array-copy-out-plus Inv-loop μ-loop
+array-copy-out-plus c = search needs
+
+element-copy-out-known : tie.Need-element-copy-out-known Inv-loop μ-loop
+element-copy-out-known c = search needs
+
+mul-known : tie.Need-mul-known Inv-loop μ-loop
+mul-known c = search needs
+
+element-copy-out-known-2 : tie.Need-element-copy-out-known-2 Inv-loop μ-loop
+element-copy-out-known-2 c = search needs
+
+known-requires : tie.Need-known-requires Inv-loop μ-loop
+known-requires c κs = search needs
+
+plus-requires : tie.Need-plus-requires Inv-loop μ-loop
+plus-requires c κs =
+    rw (held (down c), handed-on (c .known .result) (c .known .ok)) (due-fits (turning (down c)) (c .before .before .before .before .if1 .left) (knows c))
+
+mul-up : tie.Need-mul-up Inv-loop μ-loop
+mul-up c = search needs
+
+array-set-from-up : tie.Need-array-set-from-up Inv-loop μ-loop
+array-set-from-up c = search needs
+
+loop-less-2 : tie.Need-loop-less-2 Inv-loop μ-loop
+loop-less-2 c = search needs
+
+loop-again-2 : tie.Need-loop-again-2 Inv-loop μ-loop
+loop-again-2 c =
+    let k = c .before in
+    rw (held (down k), handed-on (c .plus .result) (c .plus .ok))
+    (passes-off (turning (down k)) (k .before .before .before .before .if1 .left) (knows k) (rw (held (down k), handed-on (k .known .result) (k .known .ok)) at (c .plus .ensures)))
+
+returns : tie.Need-returns Inv-loop μ-loop
+returns c = passed-all (c .before .loop .inv) (c .loop-test .left)
+
+pub of-spec : {M : Type 1} → statement M
+of-spec =
+    tie.close
+    (tie.spec
+    Inv-loop
+    μ-loop
+    loop-holds
+    sub-i
+    element-copy-out-node
+    node-requires
+    mul-down
+    array-copy-out-down
+    mul-down-2
+    array-set-from-down
+    loop-less
+    loop-again
+    mul-plus
+    array-copy-out-plus
+    element-copy-out-known
+    mul-known
+    element-copy-out-known-2
+    known-requires
+    plus-requires
+    mul-up
+    array-set-from-up
+    loop-less-2
+    loop-again-2
+    returns)

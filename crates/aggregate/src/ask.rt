@@ -1,0 +1,166 @@
+// The walk of a combine: reads a session's arrays, and adds messages to a lent trace.
+use crate::links;
+use crate::reads;
+ghost use mathlib.Core.Path.{_≡_};
+ghost use Prim.Native.Nat.{_<_};
+ghost use Rattle.tree.specs.Operation as operation;
+ghost use Rattle.session.specs.Soundness.{Sound};
+ghost use Rattle.mechanism.specs.Views.{viewOf};
+ghost use Rattle.mechanism.specs.Requests.{combines};
+ghost use Rattle.trace.specs.Traces as traces;
+ghost use Rattle.walk.specs.Asking.{Asking, Visiting, Told, Visited};
+use messages::Message;
+use session::Session;
+
+// A walk's sum, and the length of the trace after it.
+#[repr(C)]
+pub struct Asked {
+    pub sum: i64,
+    pub len: usize,
+}
+
+// The walk of a combine at x, from an empty trace.
+pub fn from(session: Session, x: usize, trace: &mut [u64; 510]) -> Asked
+    requires { ⌜ Sound 2 session × (x < session .tree .count) ⌝ }
+    ensures { λ r. ⌜ (r .sum ≡ combines operation.sum session x .sum) × (traces.trace (now (trace .exit)) (r .len) ≡ traces.pushedAll (combines operation.sum session x .log) (traces.trace (now (trace .entry)) 0)) ⌝ }
+{
+    let count = session.tree.count as usize;
+    let links = links::of(session.tree.count, &session.tree.parents);
+    ask(
+        count,
+        &session.tree.parents,
+        &links.first,
+        &links.next,
+        &session.values,
+        &session.up.lease,
+        &session.up.cache,
+        &session.down.lease,
+        &session.down.cache,
+        trace,
+        0,
+        x,
+        x,
+        count,
+    )
+}
+
+// u, come from a neighbour or from nowhere, asks its other neighbours in turn.
+fn ask<'a>(
+    count: usize,
+    parents: &'a [u8; 256],
+    first: &'a [u16; 256],
+    next: &'a [u16; 256],
+    values: &'a [i32; 256],
+    up_lease: &'a [u8; 256],
+    up_cache: &'a [i64; 256],
+    down_lease: &'a [u8; 256],
+    down_cache: &'a [i64; 256],
+    trace: &mut [u64; 510],
+    len: usize,
+    u: usize,
+    from: usize,
+    left: usize,
+) -> Asked
+    requires { ⌜ Asking (viewOf count (now parents) (now values) (now «up_lease») (now «up_cache») (now «down_lease») (now «down_cache»)) (now first) (now next) u from ⌝ }
+    ensures { λ r.
+        ⌜ Told (viewOf count (now (parents .entry)) (now (values .entry)) (now («up_lease» .entry)) (now («up_cache» .entry)) (now («down_lease» .entry)) (now («down_cache» .entry))) left u from
+        (traces.trace (now (trace .entry)) len) (r .sum)
+        (traces.trace (now (trace .exit)) (r .len)) ⌝ }
+{
+    let mut sum = reads::value(values, u);
+    let mut at = len;
+    if left == 0 {
+        return Asked { sum, len: at };
+    }
+    let mut k = links::first(count, parents, first, next, u);
+    while k < count {
+        let w = links::turn(count, u, k);
+        let got = visit(
+            count,
+            parents,
+            first,
+            next,
+            values,
+            up_lease,
+            up_cache,
+            down_lease,
+            down_cache,
+            trace,
+            at,
+            u,
+            from,
+            left - 1,
+            w,
+            sum,
+        );
+        sum = got.sum;
+        at = got.len;
+        k = links::next(count, parents, first, next, u, k);
+    }
+    Asked { sum, len: at }
+}
+
+// One neighbour: left out if u came from it, its cache if it holds a lease, else asked.
+fn visit<'a>(
+    count: usize,
+    parents: &'a [u8; 256],
+    first: &'a [u16; 256],
+    next: &'a [u16; 256],
+    values: &'a [i32; 256],
+    up_lease: &'a [u8; 256],
+    up_cache: &'a [i64; 256],
+    down_lease: &'a [u8; 256],
+    down_cache: &'a [i64; 256],
+    trace: &mut [u64; 510],
+    len: usize,
+    u: usize,
+    from: usize,
+    left: usize,
+    w: usize,
+    sum: i64,
+) -> Asked
+    requires { ⌜ Visiting (viewOf count (now parents) (now values) (now «up_lease») (now «up_cache») (now «down_lease») (now «down_cache»)) (now first) (now next) left u from w sum ⌝ }
+    ensures { λ r.
+        ⌜ Visited (viewOf count (now (parents .entry)) (now (values .entry)) (now («up_lease» .entry)) (now («up_cache» .entry)) (now («down_lease» .entry)) (now («down_cache» .entry))) left u from w sum
+        (traces.trace (now (trace .entry)) len) (r .sum)
+        (traces.trace (now (trace .exit)) (r .len)) ⌝ }
+{
+    if w == from {
+        return Asked { sum, len };
+    }
+    if reads::lease(up_lease, down_lease, w, u) != 0 {
+        let kept = reads::cache(up_cache, down_cache, w, u);
+        return Asked {
+            sum: reads::plus(sum, kept),
+            len,
+        };
+    }
+    let probed = trace::push(trace, len, Message::Probe(reads::byte(u), reads::byte(w)));
+    let got = ask(
+        count,
+        parents,
+        first,
+        next,
+        values,
+        up_lease,
+        up_cache,
+        down_lease,
+        down_cache,
+        trace,
+        probed,
+        w,
+        u,
+        left,
+    );
+    let heard = got.sum;
+    let told = got.len;
+    let end = trace::push(
+        trace,
+        told,
+        Message::Response(reads::byte(w), reads::byte(u), heard),
+    );
+    Asked {
+        sum: reads::plus(sum, heard),
+        len: end,
+    }
+}

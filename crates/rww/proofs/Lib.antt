@@ -1,0 +1,2 @@
+-- What the program's proofs rest on.
+pub mod Few
