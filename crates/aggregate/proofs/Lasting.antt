@@ -1,11 +1,10 @@
--- What lasts while a list runs: answer places of combines that are not done, soundness, and leased caches.
+-- What lasts while a list runs: answer places of combines that are not done, and soundness.
 use mathlib.Core.Path.{_≡_, refl, _∙_}
 use Prim.Native.Nat.{ℕ, _≤_}
 use native.Mathlib.Omega.{arith}
 use lib.IntN.{pos}
 use lib.ListN.{length, getD}
 use lib.Seq.{getD-set-other}
-use Rattle.tree.specs.Operation.{sum}
 use Rattle.requests.specs.Lists.{Sized}
 use Rattle.requests.specs.Reading.{requestsOf}
 use Rattle.requests.specs.declared.Request.{Request}
@@ -13,11 +12,9 @@ use Rattle.requests.specs.declared.Request.the-variants.{Combine, Write}
 use Rattle.requests.proofs.Runs.{read-sized}
 use Rattle.session.specs.Holding.{Typed}
 use Rattle.session.specs.Soundness.{Sound}
-use Rattle.mechanism.specs.Pairwise.{Right}
-use Rattle.aggregate.specs.Running.{Running, start, turn, done}
-use Rattle.aggregate.specs.Promises.{Answers-kept, Run-sound, Run-right}
-use Rattle.aggregate.proofs.Verdicts.{accepted-by}
-use Rattle.aggregate.proofs.Keeping.{sessions-sound, sessions-right}
+use Rattle.aggregate.specs.Running.{Running, start, inTurn, done}
+use Rattle.aggregate.specs.Promises.{Answers-kept, Run-sound}
+use Rattle.aggregate.proofs.Keeping.{sessions-sound}
 use Rattle.aggregate.proofs.Runs.{small, stored-length, along}
 use Rattle.aggregate.proofs.Listing.{either, ran-whole, answers-whole, ran-is, answers-are}
 
@@ -28,10 +25,10 @@ pub record Answers (o o′ : Running) : Type 0 where
   pub long : length (o′ .answers) ≡ length (o .answers)
   pub kept : (k : ℕ) → o′ .totals .answers ≤ k → getD (o′ .answers) k (pos 0) ≡ getD (o .answers) k (pos 0)
 
-answers-more : (r : Request) (o o′ : Running) → Sized r → turn r o .outcome .refusal ≡ 0 → Answers (done r o) o′ → Answers o o′
+answers-more : (r : Request) (o o′ : Running) → Sized r → inTurn r o .outcome .refusal ≡ 0 → Answers (done r o) o′ → Answers o o′
 unfolding done
 answers-more (Combine x) o o′ sized e a =
-    let z = turn (Combine x) o .outcome .answer in
+    let z = inTurn (Combine x) o .outcome .answer in
     record {
       more = omega (arith, a .more);
       long = a .long ∙ stored-length (Combine x) z (o .totals .answers) (o .answers);
@@ -58,18 +55,3 @@ pub run-sound : Run-sound
 run-sound s list answers log place typed holds = either s list answers log place
     (λ e. rw (ran-is s list answers log place e) (along (λ o o′. Fine o → Fine o′) (λ o f. f) (λ r o o′ sized i rest f. rest (fine-next r o sized f)) (requestsOf list) (start s answers log place) (read-sized list) (typed, holds)))
     (λ l. rw (ran-whole s list answers log place l) (typed, holds))
-
-abbrev Trusty : Running → Type 0
-Trusty o = Typed (o .session) × Right sum (o .session)
-
-trusty-next : (r : Request) (o : Running) → Sized r → turn r o .outcome .refusal ≡ 0 → Trusty o → Trusty (done r o)
-unfolding done
-trusty-next r o sized e f =
-    let a = accepted-by (o .session) r (length (o .log)) (o .totals .next) e in
-    let s = sessions-sound (o .session) r (length (o .log)) (o .totals .next) (f .0) (a .holds) (small r sized) in
-    (s .0, sessions-right (o .session) r (length (o .log)) (o .totals .next) (f .0) (f .1))
-
-pub run-right : Run-right
-run-right s list answers log place typed right = either s list answers log place
-    (λ e. rw (ran-is s list answers log place e) (along (λ o o′. Trusty o → Trusty o′) (λ o f. f) (λ r o o′ sized i rest f. rest (trusty-next r o sized i f)) (requestsOf list) (start s answers log place) (read-sized list) (typed, right) .1))
-    (λ l. rw (ran-whole s list answers log place l) right)

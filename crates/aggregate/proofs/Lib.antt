@@ -3,7 +3,6 @@ pub mod Hitting
 pub mod Paid
 pub mod Raising
 pub mod Judging
-pub mod Settling
 pub mod Ending
 pub mod Verdicts
 pub mod Logging

@@ -11,8 +11,7 @@ use borrow.Author.Tests.{ne-eqb, leb-true, leb-false, le-leb, lt-leb}
 use Rattle.tree.proofs.Cases.{lt-or-le}
 use Rattle.requests.specs.Format.{Ruled}
 use Rattle.requests.specs.Lists.{combinesIn}
-use Rattle.requests.specs.Reading.{requestsOf}
-use Rattle.requests.specs.Reading as reading
+use Rattle.requests.specs.Reading.{requestsOf, judgedOf}
 use Rattle.requests.proofs.Refusals.{ruled-exactly}
 use Rattle.requests.proofs.Runs.{counts-right}
 use Rattle.session.specs.Soundness.{sound}
@@ -27,17 +26,17 @@ use Rattle.aggregate.proofs.Wholly.{Runnable, runnable-by, Ends, ends, 
 -- ---- refused as a whole
 
 module _ (s : Session) (list : List ℕ) (places : ℕ) where
-  read : reading.judgedOf list .refusal ≡ 0 → reading.judgedOf list .combines ≡ combinesIn (requestsOf list)
+  read : judgedOf list .refusal ≡ 0 → judgedOf list .combines ≡ combinesIn (requestsOf list)
   read e = counts-right list e .1
 
   whole : Whole s list places (listRefusal s list places)
   unfolding listRefusal
-  whole = go (reading.judgedOf list .refusal) refl (leb (reading.judgedOf list .combines) places) refl (sound 2 s) refl
+  whole = go (judgedOf list .refusal) refl (leb (judgedOf list .combines) places) refl (sound 2 s) refl
     where
-      ruled : (n : ℕ) → reading.judgedOf list .refusal ≡ n → Ruled list n
+      ruled : (n : ℕ) → judgedOf list .refusal ≡ n → Ruled list n
       ruled n = ruled-exactly list n .0
 
-      go : (n : ℕ) → reading.judgedOf list .refusal ≡ n → (a : Bool) → leb (reading.judgedOf list .combines) places ≡ a → (b : Bool) → sound 2 s ≡ b
+      go : (n : ℕ) → judgedOf list .refusal ≡ n → (a : Bool) → leb (judgedOf list .combines) places ≡ a → (b : Bool) → sound 2 s ≡ b
           → Whole s list places (cond (eqb n 0) (cond a (cond b 0 6) 10) n)
       go zero e true h true i = starts (ruled 0 e) (rw (read e) at (leb-true _ places h)) i
       go zero e true h false i = unsound (ruled 0 e) (rw (read e) at (leb-true _ places h)) i
@@ -117,7 +116,7 @@ module _ (s : Session) (list : List ℕ) (answers : List ℤ) (log : List ℕ) (
   done-are = omega (arith, came .counted)
 
   -- a list of those alone
-  module _ (earlier : List ℕ) (right : reading.judgedOf earlier .refusal ≡ 0) (first : requestsOf earlier ≡ take (ranOf s list answers log place .index) (requestsOf list)) where
+  module _ (earlier : List ℕ) (right : judgedOf earlier .refusal ≡ 0) (first : requestsOf earlier ≡ take (ranOf s list answers log place .index) (requestsOf list)) where
     runnable : Runnable s list (length answers)
     runnable = runnable-by s list (length answers) begun
 

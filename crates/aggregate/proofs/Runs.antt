@@ -12,7 +12,7 @@ use Rattle.requests.specs.Lists.{Sized, AllSized, combinesIn}
 use Rattle.requests.specs.declared.Request.{Request}
 use Rattle.requests.specs.declared.Request.the-variants.{Combine, Write}
 use Rattle.mechanism.specs.Requests.{Small}
-use Rattle.aggregate.specs.Running.{Running, turn, stored, done, Ended, runs, Serves, all-done, stopped, accepted}
+use Rattle.aggregate.specs.Running.{Running, inTurn, stored, done, Ended, runs, Serves, all-done, stopped, accepted, spokenIn}
 
 -- a request of a list is small
 pub small : (r : Request) → Sized r → Small r
@@ -32,52 +32,54 @@ refused-there : (n : ℕ) (e : Ended) (o : Running) → from (suc n) e o ≡ rec
 refused-there n e o = rw (ne-eqb (suc n) 0 (omega arith))
 
 -- a relation that a request which is accepted keeps holds between the first turn and the last
-module _ (P : Running → Running → Type 0) (none : (o : Running) → P o o) (more : (r : Request) (o o′ : Running) → Sized r → turn r o .outcome .refusal ≡ 0 → P (done r o) o′ → P o o′) where
+module _ (P : Running → Running → Type 0) (none : (o : Running) → P o o) (more : (r : Request) (o o′ : Running) → Sized r → inTurn r o .outcome .refusal ≡ 0 → P (done r o) o′ → P o o′) where
   pub along : (rs : List Request) (o : Running) → AllSized rs → P o (runs rs o .reached)
   unfolding runs
   along [] o sized = none o
-  along (r ∷ rs) o sized = go (along rs (done r o) (sized .1)) (turn r o .outcome .refusal) refl
+  along (r ∷ rs) o sized = go (along rs (done r o) (sized .1)) (inTurn r o .outcome .refusal) refl
     where
-      go : P (done r o) (runs rs (done r o) .reached) → (n : ℕ) → turn r o .outcome .refusal ≡ n → P o (from n (runs rs (done r o)) o .reached)
+      go : P (done r o) (runs rs (done r o) .reached) → (n : ℕ) → inTurn r o .outcome .refusal ≡ n → P o (from n (runs rs (done r o)) o .reached)
       go rest zero e = more r o (runs rs (done r o) .reached) (sized .0) e rest
       go rest (suc n) e = rw (refused-there n (runs rs (done r o)) o) (none o)
 
 pub serves : (rs : List Request) (o : Running) → Serves (runs rs o .refusal) (runs rs o .reached) rs o
 unfolding runs
 serves [] o = all-done refl
-serves (r ∷ rs) o = go (serves rs (done r o)) (turn r o .outcome .refusal) refl
+serves (r ∷ rs) o = go (serves rs (done r o)) (inTurn r o .outcome .refusal) refl
   where
-    go : Serves (runs rs (done r o) .refusal) (runs rs (done r o) .reached) rs (done r o) → (n : ℕ) → turn r o .outcome .refusal ≡ n → Serves (from n (runs rs (done r o)) o .refusal) (from n (runs rs (done r o)) o .reached) (r ∷ rs) o
+    go : Serves (runs rs (done r o) .refusal) (runs rs (done r o) .reached) rs (done r o) → (n : ℕ) → inTurn r o .outcome .refusal ≡ n → Serves (from n (runs rs (done r o)) o .refusal) (from n (runs rs (done r o)) o .reached) (r ∷ rs) o
     go rest zero e = accepted r rs o e rest
     go rest (suc n) e = rw (refused-there n (runs rs (done r o)) o) (stopped r rs (omega arith) e)
 
--- how far requests come: k of them are done, which would have been accepted alone
+-- how far requests come: k of them are done, which would have been accepted alone and have said as much
 pub record Reach (rs : List Request) (o : Running) (n : ℕ) (o′ : Running) : Type 0 where
   pub k : ℕ
   pub counted : o′ .totals .requests ≡ o .totals .requests + k
   pub within : k ≤ length rs
   pub alone : runs (take k rs) o ≡ record { refusal = 0; reached = o′ }
+  pub spoken : spokenIn (take k rs) o ≡ spokenIn rs o
   pub all : n ≡ 0 → (k ≡ length rs) × (o′ .totals .answers ≡ o .totals .answers + combinesIn rs)
   pub short : 0 < n → k < length rs
 
 pub reach : (rs : List Request) (o : Running) → Reach rs o (runs rs o .refusal) (runs rs o .reached)
-unfolding runs combinesIn done
-reach [] o = record { k = 0; counted = omega arith; within = omega arith; alone = refl; all = λ e. (refl, omega arith); short = λ h. absurd (omega arith) }
-reach (r ∷ rs) o = go (reach rs (done r o)) (turn r o .outcome .refusal) refl
+unfolding runs combinesIn done spokenIn
+reach [] o = record { k = 0; counted = omega arith; within = omega arith; alone = refl; spoken = refl; all = λ e. (refl, omega arith); short = λ h. absurd (omega arith) }
+reach (r ∷ rs) o = go (reach rs (done r o)) (inTurn r o .outcome .refusal) refl
   where
-    go : Reach rs (done r o) (runs rs (done r o) .refusal) (runs rs (done r o) .reached) → (n : ℕ) → turn r o .outcome .refusal ≡ n → Reach (r ∷ rs) o (from n (runs rs (done r o)) o .refusal) (from n (runs rs (done r o)) o .reached)
+    go : Reach rs (done r o) (runs rs (done r o) .refusal) (runs rs (done r o) .reached) → (n : ℕ) → inTurn r o .outcome .refusal ≡ n → Reach (r ∷ rs) o (from n (runs rs (done r o)) o .refusal) (from n (runs rs (done r o)) o .reached)
     go l zero e =
         record {
           k = suc (l .k);
           counted = omega (arith, l .counted);
           within = omega (arith, l .within);
           alone = rw e (l .alone);
+          spoken = rw (e, l .spoken);
           all = λ z. let a = l .all z in (omega (arith, a .0), omega (arith, a .1));
           short = λ h. omega (arith, l .short h);
         }
     go l (suc n) e =
         rw (refused-there n (runs rs (done r o)) o)
-        (record { k = 0; counted = omega arith; within = omega arith; alone = refl; all = λ z. absurd (omega arith); short = λ h. omega arith })
+        (record { k = 0; counted = omega arith; within = omega arith; alone = refl; spoken = rw (e, ne-eqb (suc n) 0 (omega arith)); all = λ z. absurd (omega arith); short = λ h. omega arith })
 
 -- as many combines among the first as among all, at most
 pub combines-first : (k : ℕ) (rs : List Request) → combinesIn (take k rs) ≤ combinesIn rs

@@ -1,5 +1,5 @@
 -- What a list logs: the messages of the requests that were done, one behind the other.
-use mathlib.Core.Path.{_≡_, refl, ap, _∙_}
+use mathlib.Core.Path.{_≡_, refl, _∙_}
 use mathlib.Core.List.{List, [], _∷_, _++_}
 use Prim.Native.Nat.{ℕ, zero, suc, _+_, _<_, _≤_}
 use native.Mathlib.Omega.{arith}
@@ -7,11 +7,11 @@ use lib.ListN.{length, length-append}
 use borrow.Author.Tests.{ne-eqb}
 use Rattle.fields.specs.Usable.{usableBits}
 use Rattle.tree.specs.Operation.{sum}
-use Rattle.messages.specs.Records.{bitsOf}
 use Rattle.messages.specs.Records as records
-use Rattle.messages.specs.Writing.{logAfter, logged, bitsOfAll}
+use Rattle.messages.specs.Writing.{logged, bitsOfAll}
 use Rattle.messages.specs.declared.Message.{Message}
 use Rattle.messages.proofs.Logs.{log-length-kept, log-outside-kept, log-reads-back}
+use Rattle.messages.proofs.Stretches.{bits-append, sized-append, logged-append}
 use Rattle.messages.proofs.Counts.{count-of-read}
 use Rattle.requests.specs.Lists.{AllSized}
 use Rattle.requests.specs.Reading.{requestsOf}
@@ -21,7 +21,7 @@ use Rattle.session.specs.Holding.{Typed}
 use Rattle.session.specs.Soundness.{Sound}
 use Rattle.mechanism.specs.Requests.{says}
 use Rattle.mechanism.proofs.Fits.{messages-fit, sum-ranging}
-use Rattle.aggregate.specs.Running.{Running, start, turn, done, runs, spokenIn}
+use Rattle.aggregate.specs.Running.{Running, start, inTurn, done, runs, spokenIn}
 use Rattle.aggregate.specs.Promises.{Run-logged, Run-outside-kept}
 use Rattle.aggregate.proofs.Verdicts.{accepted-by, answers, logs}
 use Rattle.aggregate.proofs.Runs.{small, along}
@@ -29,28 +29,10 @@ use Rattle.aggregate.proofs.Wholly.{runnable-by}
 use Rattle.aggregate.proofs.Lasting.{fine-next}
 use Rattle.aggregate.proofs.Listing.{either, ran-whole, log-whole, ran-is, log-is}
 
--- ---- two stretches of messages
-
-bits-append : (ms ns : List Message) → bitsOfAll (ms ++ ns) ≡ bitsOfAll ms + bitsOfAll ns
-unfolding bitsOfAll
-bits-append [] ns = omega arith
-bits-append (m ∷ ms) ns = omega (arith, bits-append ms ns)
-
-logged-append : (log : List ℕ) (place : ℕ) (ms ns : List Message) → logged (logged log place ms) (place + bitsOfAll ms) ns ≡ logged log place (ms ++ ns)
-unfolding logged bitsOfAll
-logged-append log place [] ns = ap (λ (k : ℕ). logged log k ns) (omega arith)
-logged-append log place (m ∷ ms) ns =
-    let e : place + (bitsOf m + bitsOfAll ms) ≡ place + bitsOf m + bitsOfAll ms = omega arith in
-    rw e (logged-append (logAfter log place m) (place + bitsOf m) ms ns)
-
-sized-append : (ms ns : List Message) → records.AllSized ms → records.AllSized ns → records.AllSized (ms ++ ns)
-sized-append [] ns a b = b
-sized-append (m ∷ ms) ns a b = (a .0, sized-append ms ns (a .1) b)
-
 -- ---- one request more
 
 -- what an accepted request says
-module _ (r : Request) (o : Running) (e : turn r o .outcome .refusal ≡ 0) where
+module _ (r : Request) (o : Running) (e : inTurn r o .outcome .refusal ≡ 0) where
   abbrev says-it : List Message
   says-it = says sum (o .session) r .log
 
@@ -76,7 +58,7 @@ spoke-none : (o : Running) → Spoke o [] o
 unfolding logged bitsOfAll
 spoke-none o = record { logs = refl; place = omega arith; count = omega arith }
 
-spoke-more : (r : Request) (o : Running) (ms : List Message) (o′ : Running) → turn r o .outcome .refusal ≡ 0 → Spoke (done r o) ms o′ → Spoke o (says sum (o .session) r .log ++ ms) o′
+spoke-more : (r : Request) (o : Running) (ms : List Message) (o′ : Running) → inTurn r o .outcome .refusal ≡ 0 → Spoke (done r o) ms o′ → Spoke o (says sum (o .session) r .log ++ ms) o′
 spoke-more r o ms o′ e k =
     let said = says sum (o .session) r .log in
     record {
@@ -88,9 +70,9 @@ spoke-more r o ms o′ e k =
 pub spoke : (rs : List Request) (o : Running) → Spoke o (spokenIn rs o) (runs rs o .reached)
 unfolding runs spokenIn
 spoke [] o = spoke-none o
-spoke (r ∷ rs) o = go (spoke rs (done r o)) (turn r o .outcome .refusal) refl
+spoke (r ∷ rs) o = go (spoke rs (done r o)) (inTurn r o .outcome .refusal) refl
   where
-    go : Spoke (done r o) (spokenIn rs (done r o)) (runs rs (done r o) .reached) → (n : ℕ) → turn r o .outcome .refusal ≡ n → Spoke o (spokenIn (r ∷ rs) o) (runs (r ∷ rs) o .reached)
+    go : Spoke (done r o) (spokenIn rs (done r o)) (runs rs (done r o) .reached) → (n : ℕ) → inTurn r o .outcome .refusal ≡ n → Spoke o (spokenIn (r ∷ rs) o) (runs (r ∷ rs) o .reached)
     go rest zero e = rw e (spoke-more r o (spokenIn rs (done r o)) (runs rs (done r o) .reached) e rest)
     go rest (suc n) e = rw (e, ne-eqb (suc n) 0 (omega arith)) (spoke-none o)
 
@@ -99,9 +81,9 @@ fitting : (rs : List Request) (o : Running) → AllSized rs → Typed (o .sessio
 unfolding spokenIn
 fitting [] o sized typed holds = tt
 fitting (r ∷ rs) o sized typed holds =
-    go (let f = fine-next r o (sized .0) (typed, holds) in fitting rs (done r o) (sized .1) (f .0) (f .1)) (turn r o .outcome .refusal) refl
+    go (let f = fine-next r o (sized .0) (typed, holds) in fitting rs (done r o) (sized .1) (f .0) (f .1)) (inTurn r o .outcome .refusal) refl
   where
-    go : records.AllSized (spokenIn rs (done r o)) → (n : ℕ) → turn r o .outcome .refusal ≡ n → records.AllSized (spokenIn (r ∷ rs) o)
+    go : records.AllSized (spokenIn rs (done r o)) → (n : ℕ) → inTurn r o .outcome .refusal ≡ n → records.AllSized (spokenIn (r ∷ rs) o)
     go rest zero e =
         let a = accepted-by (o .session) r (length (o .log)) (o .totals .next) e in
         rw e (sized-append (says sum (o .session) r .log) (spokenIn rs (done r o)) (messages-fit sum 2 sum-ranging (o .session) typed holds r (small r (sized .0)) (a .inside)) rest)
@@ -117,7 +99,7 @@ pub record Room (o o′ : Running) : Type 0 where
   pub stays : Inside o → Inside o′
   pub comes : o .totals .requests < o′ .totals .requests → Inside o′
 
-inside-next : (r : Request) (o : Running) → turn r o .outcome .refusal ≡ 0 → Inside (done r o)
+inside-next : (r : Request) (o : Running) → inTurn r o .outcome .refusal ≡ 0 → Inside (done r o)
 inside-next r o e =
     let a = accepted-by (o .session) r (length (o .log)) (o .totals .next) e in
     rw (place-next r o e, log-next r o e, log-length-kept (o .log) (o .totals .next) (says sum (o .session) r .log)) (a .room)

@@ -22,7 +22,7 @@ use Rattle.session.specs.Holding.{Typed}
 use Rattle.session.specs.Soundness.{Sound}
 use Rattle.session.specs.declared.Session.{Session}
 use Rattle.aggregate.specs.Serving.{logOf}
-use Rattle.aggregate.specs.Running.{Running, running, start, turn, stored, added, done, runs, listRefusal, endedAs, endOf}
+use Rattle.aggregate.specs.Running.{Running, running, start, inTurn, stored, added, done, runs, listRefusal, endedAs, endOf}
 use Rattle.aggregate.specs.Turns.{Starting, Placed, Addable}
 use Rattle.aggregate.specs.declared.Served.{Served}
 use Rattle.aggregate.specs.declared.Totals.{Totals}
@@ -111,7 +111,7 @@ module _ {s : Session} {list : List ℕ} {answers : List ℤ} {log : List ℕ} {
     pub never-short : itemAt list at ≡ Short → ⊥
     never-short e = omega (arith, ap (λ (i : Item). told i .0) (sym (ahead .4) ∙ e))
 
-    pub addable : (r : Request) {v : Served} {k : ℕ} → v ≡ turn r o → k ≡ oneIfCombine r → Addable (o .totals) k (v .outcome)
+    pub addable : (r : Request) {v : Served} {k : ℕ} → v ≡ inTurn r o → k ≡ oneIfCombine r → Addable (o .totals) k (v .outcome)
     addable r served e =
         rw (served, e)
         (record {
@@ -144,15 +144,15 @@ module _ {s : Session} {list : List ℕ} {answers : List ℤ} {log : List ℕ} {
       pub placed-now : Placed r (o .totals .answers) (length (o .answers))
       placed-now = placed r (o .totals .answers) (length (o .answers)) (omega (arith, places-now))
 
-      goes-on : turn r o .outcome .refusal ≡ 0 → runs rest (done r o) ≡ runs (r ∷ rest) o
+      goes-on : inTurn r o .outcome .refusal ≡ 0 → runs rest (done r o) ≡ runs (r ∷ rest) o
       unfolding runs
-      goes-on e = rw (eq-eqb (turn r o .outcome .refusal) 0 e)
+      goes-on e = rw (eq-eqb (inTurn r o .outcome .refusal) 0 e)
 
-      stops : turn r o .outcome .refusal ≢ 0 → record { refusal = turn r o .outcome .refusal; reached = o } ≡ runs (r ∷ rest) o
+      stops : inTurn r o .outcome .refusal ≢ 0 → record { refusal = inTurn r o .outcome .refusal; reached = o } ≡ runs (r ∷ rest) o
       unfolding runs
-      stops d = rw (ne-eqb (turn r o .outcome .refusal) 0 d)
+      stops d = rw (ne-eqb (inTurn r o .outcome .refusal) 0 d)
 
-      underway-done : turn r o .outcome .refusal ≡ 0 → Underway s list answers log place count next (done r o)
+      underway-done : inTurn r o .outcome .refusal ≡ 0 → Underway s list answers log place count next (done r o)
       unfolding done
       underway-done e =
           let kept = sessions-sound (o .session) r (length (o .log)) (o .totals .next) (u .typed) (u .holds) (small r (sized-now .0)) in
@@ -166,18 +166,18 @@ module _ {s : Session} {list : List ℕ} {answers : List ℤ} {log : List ℕ} {
             typed = kept .0;
             holds = kept .1;
             sized = sized-now .1;
-            places = omega (arith, places-now, stored-length r (turn r o .outcome .answer) (o .totals .answers) (o .answers));
+            places = omega (arith, places-now, stored-length r (inTurn r o .outcome .answer) (o .totals .answers) (o .answers));
             answers-few = omega (arith, u .answers-few, one-at-most r);
             messages-few = omega (arith, u .messages-few, at-most-510 (o .session) r (length (o .log)) (o .totals .next) .0);
-            answers-long = stored-length r (turn r o .outcome .answer) (o .totals .answers) (o .answers) ∙ u .answers-long;
+            answers-long = stored-length r (inTurn r o .outcome .answer) (o .totals .answers) (o .answers) ∙ u .answers-long;
             log-long = length-kept (o .session) r (o .log) (o .totals .next) ∙ u .log-long;
           }
 
       -- what it answered, and the log it left
-      module _ {v : Served} {log' : List ℕ} (served : v ≡ turn r o) (logged : log' ≡ logOf (o .session) r (o .log) (o .totals .next)) where
+      module _ {v : Served} {log' : List ℕ} (served : v ≡ inTurn r o) (logged : log' ≡ logOf (o .session) r (o .log) (o .totals .next)) where
         pub ends-refused : v .outcome .refusal ≢ 0 → Ends s list answers log place (endedAs (v .outcome .refusal) (o .totals) (o .session)) (o .answers) log'
         ends-refused d =
-            let stay : turn r o .outcome .refusal ≢ 0 = rw served at d in
+            let stay : inTurn r o .outcome .refusal ≢ 0 = rw served at d in
             rw (served, logged, logs-nothing (o .session) r (o .log) (o .totals .next) (omega arith)) (ends s list answers log place (u .accepted) _ o (stops stay ∙ runs-now))
 
         pub underway-next : v .outcome .refusal ≡ 0 → {k : ℕ} {t : Totals} {z : ℤ} {answers' : List ℤ} → k ≡ oneIfCombine r → t ≡ added k (v .outcome) (o .totals)

@@ -1,16 +1,14 @@
 -- What the functions that make the session after a request ask for, and what they leave.
 use mathlib.Core.Path.{_≡_}
-use mathlib.Core.Bool.{cond, _&&_}
 use mathlib.Core.List.{List}
 use Prim.Native.Nat.{ℕ, _<_, _≤_}
-use lib.Dec.{ltb}
 use lib.IntN.{ℤ}
 use lib.ListN.{getD, length}
 use Rattle.tree.specs.Parents.{parent, Grown}
 use Rattle.tree.specs.Sides.{pointsTo}
 use Rattle.session.specs.declared.Pairs.{Pairs}
 use Rattle.session.specs.declared.Session.{Session}
-use Rattle.mechanism.specs.Applying.{Links, each, raised}
+use Rattle.mechanism.specs.Applying.{Links, raisedAt, raised}
 use Rattle.mechanism.specs.Requests.{linksOf}
 
 -- the pairs of a direction, and of both, by their arrays
@@ -35,10 +33,10 @@ pub record Climbing (ps : List ℕ) (n x : ℕ) (up down : List ℕ) : Type 0 wh
 
 -- the numbers of the pairs that point to x become b
 unfoldable pub upRaised : List ℕ → ℕ → ℕ → ℕ → List ℕ → List ℕ
-upRaised ps n b x l = each (λ i k. cond ((ltb 0 i && ltb i n) && pointsTo ps i (parent ps i) x) b k) 0 l
+upRaised ps n b x l = raisedAt n (λ i. pointsTo ps i (parent ps i) x) b l
 
 unfoldable pub downRaised : List ℕ → ℕ → ℕ → ℕ → List ℕ → List ℕ
-downRaised ps n b x l = each (λ i k. cond ((ltb 0 i && ltb i n) && pointsTo ps (parent ps i) i x) b k) 0 l
+downRaised ps n b x l = raisedAt n (λ i. pointsTo ps (parent ps i) i x) b l
 
 -- the session with every pair that points to x at b
 abbrev pub raisedOf : ℕ → Session → ℕ → Session

@@ -6,18 +6,16 @@ use Prim.Native.Nat.{ℕ, _+_, _≤_, _<_}
 use lib.IntN.{ℤ, pos}
 use lib.ListN.{length, take, getD}
 use Rattle.fields.specs.Bits.{bit}
-use Rattle.tree.specs.Operation.{fold, sum}
+use Rattle.tree.specs.Operation.{sum}
 use Rattle.messages.specs.Reading.{Reads, countFrom}
 use Rattle.requests.specs.Lists.{combinesIn}
 use Rattle.requests.specs.Reading.{requestsOf, judgedOf}
 use Rattle.requests.specs.declared.Request.{Request}
-use Rattle.requests.specs.declared.Request.the-variants.{Combine}
-use Rattle.session.specs.Holding.{valueOf, Typed}
+use Rattle.session.specs.Holding.{Typed}
 use Rattle.session.specs.Soundness.{Sound}
 use Rattle.session.specs.declared.Session.{Session}
 use Rattle.mechanism.specs.Requests.{nodeOf, Small, says}
 use Rattle.mechanism.specs.Refusals.{Ruled}
-use Rattle.mechanism.specs.Pairwise.{Right}
 use Rattle.aggregate.specs.Serving.{refused, servedOf, logOf}
 use Rattle.aggregate.specs.Running.{running, start, endedAs, listRefusal, ranOf, answersOf, runLogOf, Whole, Serves, spokenOf}
 use Rattle.aggregate.specs.Running.{refused as refusedList}
@@ -53,17 +51,9 @@ Length-kept = (s : Session) (r : Request) (log : List ℕ) (place : ℕ) → len
 abbrev pub At-most-510 : Type 0
 At-most-510 = (s : Session) (r : Request) (len place : ℕ) → (servedOf s r len place .outcome .messages ≤ 510) × (servedOf s r len place .outcome .next ≤ place + 19380)
 
--- A sound session stays sound, whether a request is accepted or refused, and each leased cache stays the sum of its side.
+-- A sound session stays sound, whether a request is accepted or refused.
 abbrev pub Sessions-sound : Type 0
 Sessions-sound = (s : Session) (r : Request) (len place : ℕ) → Typed s → Sound 2 s → Small r → Typed (servedOf s r len place .session) × Sound 2 (servedOf s r len place .session)
-
-abbrev pub Sessions-right : Type 0
-Sessions-right = (s : Session) (r : Request) (len place : ℕ) → Typed s → Right sum s → Right sum (servedOf s r len place .session)
-
--- Where it is so, an accepted combine answers the sum of all values.
-abbrev pub Combine-sums : Type 0
-Combine-sums = (s : Session) (x len place : ℕ) → Typed s → Right sum s → servedOf s (Combine x) len place .outcome .refusal ≡ 0
-    → servedOf s (Combine x) len place .outcome .answer ≡ fold sum (valueOf s) (s .tree .count)
 
 -- ---- running a list
 
@@ -120,9 +110,6 @@ abbrev pub Run-outside-kept : Type 0
 Run-outside-kept = (s : Session) (list : List ℕ) (answers : List ℤ) (log : List ℕ) (place k : ℕ) → (k < place) ⊎ (ranOf s list answers log place .totals .next ≤ k)
     → (bit (runLogOf s list answers log place) k ≡ bit log k) × (length (runLogOf s list answers log place) ≡ length log)
 
--- A sound session stays sound, and each leased cache stays the sum of its side.
+-- A sound session stays sound, wherever the list stops.
 abbrev pub Run-sound : Type 0
 Run-sound = (s : Session) (list : List ℕ) (answers : List ℤ) (log : List ℕ) (place : ℕ) → Typed s → Sound 2 s → Typed (ranOf s list answers log place .session) × Sound 2 (ranOf s list answers log place .session)
-
-abbrev pub Run-right : Type 0
-Run-right = (s : Session) (list : List ℕ) (answers : List ℤ) (log : List ℕ) (place : ℕ) → Typed s → Right sum s → Right sum (ranOf s list answers log place .session)

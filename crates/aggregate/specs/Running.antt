@@ -10,8 +10,7 @@ use Rattle.tree.specs.Operation.{sum}
 use Rattle.messages.specs.declared.Message.{Message}
 use Rattle.requests.specs.Format.{Ruled}
 use Rattle.requests.specs.Lists.{oneIfCombine, combinesIn}
-use Rattle.requests.specs.Reading.{requestsOf}
-use Rattle.requests.specs.Reading as reading
+use Rattle.requests.specs.Reading.{requestsOf, judgedOf}
 use Rattle.requests.specs.declared.Request.{Request}
 use Rattle.requests.specs.declared.Request.the-variants.{Combine, Write}
 use Rattle.session.specs.Soundness.{sound}
@@ -40,8 +39,8 @@ abbrev pub start : Session → List ℤ → List ℕ → ℕ → Running
 start s answers log place = running (record { requests = 0; answers = 0; messages = 0; next = place }) s answers log
 
 -- what a request answers when its turn has come
-abbrev pub turn : Request → Running → Served
-turn r o = servedOf (o .session) r (length (o .log)) (o .totals .next)
+abbrev pub inTurn : Request → Running → Served
+inTurn r o = servedOf (o .session) r (length (o .log)) (o .totals .next)
 
 -- the answer of a combine goes to the next answer place
 abbrev pub stored : Request → ℤ → ℕ → List ℤ → List ℤ
@@ -55,9 +54,9 @@ added k o t = record { requests = t .requests + 1; answers = t .answers + k; mes
 unfoldable pub done : Request → Running → Running
 done r o =
     running
-    (added (oneIfCombine r) (turn r o .outcome) (o .totals))
-    (turn r o .session)
-    (stored r (turn r o .outcome .answer) (o .totals .answers) (o .answers))
+    (added (oneIfCombine r) (inTurn r o .outcome) (o .totals))
+    (inTurn r o .session)
+    (stored r (inTurn r o .outcome .answer) (o .totals .answers) (o .answers))
     (logOf (o .session) r (o .log) (o .totals .next))
 
 -- requests in their order, up to the first that is refused: its number, or 0, and how far they came
@@ -67,14 +66,14 @@ pub record Ended : Type 0 where
 
 unfoldable pub runs : List Request → Running → Ended
 runs [] o = record { refusal = 0; reached = o }
-runs (r ∷ rs) o = cond (eqb (turn r o .outcome .refusal) 0) (runs rs (done r o)) (record { refusal = turn r o .outcome .refusal; reached = o })
+runs (r ∷ rs) o = cond (eqb (inTurn r o .outcome .refusal) 0) (runs rs (done r o)) (record { refusal = inTurn r o .outcome .refusal; reached = o })
 
 -- ---- the whole list
 
 -- the refusal of a list as a whole: the reader's, then 10, then 6
 unfoldable pub listRefusal : Session → List ℕ → ℕ → ℕ
 listRefusal s list places =
-    cond (eqb (reading.judgedOf list .refusal) 0) (cond (leb (reading.judgedOf list .combines) places) (cond (sound 2 s) 0 6) 10) (reading.judgedOf list .refusal)
+    cond (eqb (judgedOf list .refusal) 0) (cond (leb (judgedOf list .combines) places) (cond (sound 2 s) 0 6) 10) (judgedOf list .refusal)
 
 -- a number, how far the list came, and the index of the request that was refused
 abbrev pub endedAs : ℕ → Totals → Session → Ran
@@ -113,13 +112,13 @@ pub data Whole (s : Session) (list : List ℕ) (places : ℕ) : ℕ → Type 0 w
 -- requests are served one by one and o′ is reached: all are done, and n is 0; or the next one is refused with n
 pub data Serves (n : ℕ) (o′ : Running) : List Request → Running → Type 0 where
   all-done : n ≡ 0 → Serves n o′ [] o′
-  stopped : (r : Request) (rs : List Request) → 0 < n → turn r o′ .outcome .refusal ≡ n → Serves n o′ (r ∷ rs) o′
-  accepted : (r : Request) (rs : List Request) (o : Running) → turn r o .outcome .refusal ≡ 0 → Serves n o′ rs (done r o) → Serves n o′ (r ∷ rs) o
+  stopped : (r : Request) (rs : List Request) → 0 < n → inTurn r o′ .outcome .refusal ≡ n → Serves n o′ (r ∷ rs) o′
+  accepted : (r : Request) (rs : List Request) (o : Running) → inTurn r o .outcome .refusal ≡ 0 → Serves n o′ rs (done r o) → Serves n o′ (r ∷ rs) o
 
 -- the messages of the requests that were done, in their order
 unfoldable pub spokenIn : List Request → Running → List Message
 spokenIn [] o = []
-spokenIn (r ∷ rs) o = cond (eqb (turn r o .outcome .refusal) 0) (says sum (o .session) r .log ++ spokenIn rs (done r o)) []
+spokenIn (r ∷ rs) o = cond (eqb (inTurn r o .outcome .refusal) 0) (says sum (o .session) r .log ++ spokenIn rs (done r o)) []
 
 abbrev pub spokenOf : Session → List ℕ → List ℤ → List ℕ → ℕ → List Message
 spokenOf s list answers log place = spokenIn (requestsOf list) (start s answers log place)

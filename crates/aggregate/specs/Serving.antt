@@ -2,10 +2,9 @@
 use mathlib.Core.Bool.{cond}
 use mathlib.Core.List.{List}
 use Prim.Native.Nat.{ℕ, zero, suc, _+_}
-use lib.Dec.{eqb, leb, ltb}
+use lib.Dec.{eqb, ltb}
 use lib.IntN.{ℤ, pos}
 use lib.ListN.{length}
-use Rattle.fields.specs.Usable.{usableBits}
 use Rattle.tree.specs.Operation.{sum}
 use Rattle.messages.specs.Writing.{logged, bitsOfAll}
 use Rattle.messages.specs.declared.Message.{Message}
@@ -13,8 +12,7 @@ use Rattle.requests.specs.declared.Request.{Request}
 use Rattle.session.specs.Soundness.{limit}
 use Rattle.session.specs.declared.Session.{Session}
 use Rattle.mechanism.specs.Requests.{nodeOf, says, after}
-use Rattle.mechanism.specs.Refusals.{room, refusalOf}
-use Rattle.aggregate.specs.declared.Outcome.{Outcome}
+use Rattle.mechanism.specs.Refusals.{refusalOf}
 use Rattle.aggregate.specs.declared.Served.{Served}
 
 -- the number of a refusal and zeros, and the session as it came
@@ -41,16 +39,6 @@ servedOf s r len place = served (refusal s r len place) (accepted (says sum s r 
 unfoldable pub logOf : Session → Request → List ℕ → ℕ → List ℕ
 logOf s r log place = cond (eqb (refusal s r (length log) place) 0) (logged log place (says sum s r .log)) log
 
--- ---- the same, step by step
-
--- what is answered and logged where all else is in order, by the room there is
-unfoldable pub outcomeOf : ℕ → ℕ → ℤ → List Message → Outcome
-outcomeOf len place z ms =
-    cond (room len place ms) (record { refusal = 0; answer = z; messages = length ms; next = place + bitsOfAll ms }) (record { refusal = 9; answer = pos 0; messages = 0; next = 0 })
-
-unfoldable pub loggedOf : List ℕ → ℕ → List Message → List ℕ
-loggedOf log place ms = cond (room (length log) place ms) (logged log place ms) log
-
--- the refusal of a request to a sound session before its room is known: 7, then 8, then 9 for a place past the usable log
-unfoldable pub judgedOf : ℕ → ℕ → ℕ → ℕ → ℕ → ℕ
-judgedOf count accepted x len place = cond (ltb x count) (cond (ltb accepted limit) (cond (leb place (usableBits len)) 0 9) 8) 7
+-- the refusal of a request to a sound session before its walk: 7, then 8
+unfoldable pub earlyRefusal : ℕ → ℕ → ℕ → ℕ
+earlyRefusal count accepted x = cond (ltb x count) (cond (ltb accepted limit) 0 8) 7

@@ -2,7 +2,7 @@
 use mathlib.Core.Path.{_≡_}
 use mathlib.Core.List.{List}
 use Prim.Native.Nat.{ℕ, _*_, _<_, _≤_}
-use Rattle.requests.specs.Reading as reading
+use Rattle.requests.specs.Reading.{judgedOf}
 use Rattle.requests.specs.declared.Request.{Request}
 use Rattle.requests.specs.declared.Request.the-variants.{Combine, Write}
 use Rattle.session.specs.declared.Session.{Session}
@@ -13,8 +13,8 @@ use Rattle.aggregate.specs.declared.Totals.{Totals}
 -- a list that is not refused as a whole, with its count and the place of its first request
 pub record Starting (s : Session) (list : List ℕ) (places count first : ℕ) : Type 0 where
   pub accepted : listRefusal s list places ≡ 0
-  pub counted : count ≡ reading.judgedOf list .requests
-  pub begins : first ≡ reading.judgedOf list .first
+  pub counted : count ≡ judgedOf list .requests
+  pub begins : first ≡ judgedOf list .first
 
 -- there is an answer place for a combine
 abbrev pub Placed : Request → ℕ → ℕ → Type 0

@@ -5,7 +5,7 @@
 // keeps what its earlier requests did.
 mod apply; // what messages make of a session
 mod ask; // the walk of a combine
-mod judge; // what a request answers
+mod judge; // what a refused request answers
 mod later; // what comes after each neighbour
 mod links; // each node's neighbours, one after the other
 mod raise; // a combine raises every pair that points to its node

@@ -1,4 +1,5 @@
 // One request to a session that is sound.
+use crate::Outcome;
 use crate::Served;
 use crate::apply;
 use crate::ask;
@@ -15,6 +16,7 @@ ghost use Rattle.mechanism.specs.Requests.{valued as valuedBy};
 ghost use Rattle.aggregate.specs.Serving.{servedOf, logOf};
 use requests::Request;
 use session::Session;
+use trace::Logged;
 
 // A request of a list.
 pub fn request(session: Session, request: Request, log: &mut [u8], place: usize) -> Served
@@ -32,18 +34,22 @@ pub fn combined(session: Session, x: usize, log: &mut [u8], place: usize) -> Ser
     requires { ⌜ Sound 2 session ⌝ }
     ensures { λ r. ⌜ (r ≡ servedOf session (Combine x) (length (now (log .entry))) place) × (now (log .exit) ≡ logOf session (Combine x) (now (log .entry)) place) ⌝ }
 {
-    let refusal = judge::judged(session.tree.count, session.accepted, x, log.len(), place);
+    let refusal = judge::early_refusal(session.tree.count, session.accepted, x);
     if refusal != 0 {
         return judge::refused(refusal, session);
     }
     let mut trace = [0u64; 510];
     let asked = ask::from(session, x, &mut trace);
-    let outcome = judge::logged(log, place, asked.sum, &trace, asked.len);
-    if outcome.refusal != 0 {
+    let Logged::Next(next) = trace::log(log, place, &trace, asked.len) else {
         return judge::refused(9, session);
-    }
+    };
     Served {
-        outcome,
+        outcome: Outcome {
+            refusal: 0,
+            answer: asked.sum,
+            messages: asked.len as u32,
+            next,
+        },
         session: raise::raised(apply::applied(session, &trace, asked.len), x),
     }
 }
@@ -53,18 +59,22 @@ pub fn written(session: Session, x: usize, value: i32, log: &mut [u8], place: us
     requires { ⌜ Sound 2 session ⌝ }
     ensures { λ r. ⌜ (r ≡ servedOf session (Write x value) (length (now (log .entry))) place) × (now (log .exit) ≡ logOf session (Write x value) (now (log .entry)) place) ⌝ }
 {
-    let refusal = judge::judged(session.tree.count, session.accepted, x, log.len(), place);
+    let refusal = judge::early_refusal(session.tree.count, session.accepted, x);
     if refusal != 0 {
         return judge::refused(refusal, session);
     }
     let mut trace = [0u64; 510];
     let len = spread::from(session, x, value, &mut trace);
-    let outcome = judge::logged(log, place, 0, &trace, len);
-    if outcome.refusal != 0 {
+    let Logged::Next(next) = trace::log(log, place, &trace, len) else {
         return judge::refused(9, session);
-    }
+    };
     Served {
-        outcome,
+        outcome: Outcome {
+            refusal: 0,
+            answer: 0,
+            messages: len as u32,
+            next,
+        },
         session: apply::applied(valued(session, x, value), &trace, len),
     }
 }

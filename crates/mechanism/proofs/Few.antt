@@ -10,6 +10,7 @@ use Rattle.messages.specs.Records.{kindOf, widthOf}
 use Rattle.messages.specs.Writing.{bitsOfAll}
 use Rattle.messages.specs.declared.Message.{Message}
 use Rattle.messages.specs.declared.Message.the-variants.{Probe, Response, Update, Release}
+use Rattle.messages.proofs.Stretches.{bits-append}
 use Rattle.requests.specs.declared.Request.the-variants.{Combine, Write}
 use Rattle.session.specs.Holding.{leaseOf}
 use Rattle.session.specs.Soundness.{Sound}
@@ -22,11 +23,6 @@ use Rattle.mechanism.proofs.Asking.{asks, probes, responses}
 use Rattle.mechanism.proofs.Telling.{tells, updates, releases}
 use Rattle.mechanism.proofs.Walks.{combines-tour, writes-tour}
 use Rattle.mechanism.proofs.Weights.{tour-weight}
-
-bits-both : (l r : List Message) → bitsOfAll (l ++ r) ≡ bitsOfAll l + bitsOfAll r
-unfolding bitsOfAll
-bits-both [] r = omega arith
-bits-both (m ∷ l) r = omega (arith, bits-both l r)
 
 module _ (op : Op ℤ) (b : ℕ) (s : Session) (i : Sound b s) (x : ℕ) (hx : x < s .tree .count)
     (weight : List Message → ℕ) (none : weight [] ≡ 0) (both : (l r : List Message) → weight (l ++ r) ≡ weight l + weight r) (c : ℕ) where
@@ -49,9 +45,9 @@ pub few-messages : Few-messages
 unfolding bitsOfAll widthOf kindOf
 few-messages op b s i (Combine x) hx = (
   omega (arith, i .tree-in-rule .few, combine-weight op b s i x hx length refl length-append 2 (λ u w y. omega arith)),
-  omega (arith, i .tree-in-rule .few, combine-weight op b s i x hx bitsOfAll refl bits-both 76 (λ u w y. omega arith)),
+  omega (arith, i .tree-in-rule .few, combine-weight op b s i x hx bitsOfAll refl bits-append 76 (λ u w y. omega arith)),
 )
 few-messages op b s i (Write x z) hx = (
   omega (arith, i .tree-in-rule .few, write-weight op b s i x hx length refl length-append 2 z (λ u w y. omega arith)),
-  omega (arith, i .tree-in-rule .few, write-weight op b s i x hx bitsOfAll refl bits-both 76 z (λ u w y. omega arith)),
+  omega (arith, i .tree-in-rule .few, write-weight op b s i x hx bitsOfAll refl bits-append 76 z (λ u w y. omega arith)),
 )

@@ -24,7 +24,7 @@ abbrev pub Owned : Session → List Message → Type 0
 Owned s [] = Unit
 Owned s (m ∷ ms) = Pair s (fromOf m) (toOf m) × Owned s ms
 
-owned-both : (s : Session) (l r : List Message) → Owned s l → Owned s r → Owned s (l ++ r)
+pub owned-both : (s : Session) (l r : List Message) → Owned s l → Owned s r → Owned s (l ++ r)
 owned-both s [] r h k = k
 owned-both s (m ∷ l) r (p, h) k = (p, owned-both s l r h k)
 

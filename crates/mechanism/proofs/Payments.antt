@@ -15,7 +15,8 @@ use Rattle.mechanism.specs.Pairwise.{pays, speaks, exchange, toldOf}
 use Rattle.mechanism.specs.Promises.{Pair-pays}
 use Rattle.mechanism.proofs.Says.{lemma-4-1}
 
-counted : (r : Request) (near : Bool) (k u v : ℕ) (z : ℤ) → length (when (speaks r near k) (exchange r k u v z)) ≡ pays r near k
+-- what is said of the pair, counted
+pub counted : (r : Request) (near : Bool) (k u v : ℕ) (z : ℤ) → length (when (speaks r near k) (exchange r k u v z)) ≡ pays r near k
 unfolding pays price
 counted combine true k u v z = refl
 counted combine false zero u v z = refl

@@ -72,9 +72,12 @@ unfoldable pub each : {A : Type 0} → (ℕ → A → A) → ℕ → List A → 
 each g i [] = []
 each g i (a ∷ l) = g i a ∷ each g (suc i) l
 
--- the numbers of those pairs of n nodes that `points` says become b
+-- numbers by the place of their pair: those of pairs of n nodes that `points` says become b
+abbrev pub raisedAt : ℕ → (ℕ → Bool) → ℕ → List ℕ → List ℕ
+raisedAt n points b l = each (λ i k. cond ((ltb 0 i && ltb i n) && points i) b k) 0 l
+
 abbrev pub raisedIf : ℕ → (ℕ → Bool) → ℕ → Pairs → Pairs
-raisedIf n points b p = record { lease = each (λ i k. cond ((ltb 0 i && ltb i n) && points i) b k) 0 (p .lease); cache = p .cache; messages = p .messages }
+raisedIf n points b p = record { lease = raisedAt n points b (p .lease); cache = p .cache; messages = p .messages }
 
 -- every pair that points to x gets b
 unfoldable pub raised : List ℕ → ℕ → ℕ → ℕ → Links → Links

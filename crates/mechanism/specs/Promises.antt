@@ -95,3 +95,6 @@ Sum-ranging = Ranging sum
 
 abbrev pub Sum-plain : Type 0
 Sum-plain = (s : Session) → Plain sum s
+
+abbrev pub Sum-written : Type 0
+Sum-written = (r : Request) → PlainlyWritten sum r

@@ -4,10 +4,10 @@ use mathlib.Core.Bool.{Bool, true, false, cond, _&&_}
 use mathlib.Core.Logic.{_⊎_}
 use mathlib.Core.List.{List, [], _∷_}
 use Prim.Native.Nat.{ℕ, _+_, _≤_, _<_}
-use lib.Dec.{leb, ltb}
+use lib.Dec.{ltb}
 use Rattle.fields.specs.Usable.{usableBits}
 use Rattle.messages.specs.Records.{fits}
-use Rattle.messages.specs.Writing.{bitsOfAll}
+use Rattle.messages.specs.Writing.{bitsOfAll, roomForAll}
 use Rattle.messages.specs.declared.Message.{Message}
 use Rattle.session.specs.Soundness.{limit, sound}
 use Rattle.session.specs.declared.Session.{Session}
@@ -16,10 +16,6 @@ use Rattle.session.specs.declared.Session.{Session}
 unfoldable pub allFit : List Message → Bool
 allFit [] = true
 allFit (m ∷ ms) = fits m && allFit ms
-
--- the records of ms have room in the usable log of len bytes, from place on
-abbrev pub room : ℕ → ℕ → List Message → Bool
-room len place ms = leb (place + bitsOfAll ms) (usableBits len)
 
 -- a request at x that says ms, to a log of len bytes, from place on
 pub data Ruled (b : ℕ) (s : Session) (x len place : ℕ) (ms : List Message) : ℕ → Type 0 where
@@ -38,4 +34,4 @@ pub data Ruled (b : ℕ) (s : Session) (x len place : ℕ) (ms : List Message) :
 -- the same as a computation
 unfoldable pub refusalOf : ℕ → Session → ℕ → ℕ → ℕ → List Message → ℕ
 refusalOf b s x len place ms =
-    cond (sound b s) (cond (ltb x (s .tree .count)) (cond (ltb (s .accepted) limit) (cond (room len place ms) (cond (allFit ms) 0 11) 9) 8) 7) 6
+    cond (sound b s) (cond (ltb x (s .tree .count)) (cond (ltb (s .accepted) limit) (cond (roomForAll len place ms) (cond (allFit ms) 0 11) 9) 8) 7) 6

@@ -1,14 +1,17 @@
 -- Going through a log message by message.
 use mathlib.Core.Path.{_≡_, refl, sym, ap, _∙_}
-use mathlib.Core.Bool.{true, false, false≢true}
+use mathlib.Core.Bool.{Bool, true, false, cond, false≢true}
 use mathlib.Core.List.{List, [], _∷_}
 use Prim.Native.Nat.{ℕ, zero, suc, _+_, _-_, _≤_, _<_}
 use native.Mathlib.Nat.{sub-zero, zero-add}
 use native.Mathlib.Omega.{arith}
+use lib.Dec.{leb}
 use lib.ListN.{length}
+use borrow.Author.Tests.{eq-eqb}
 use Rattle.fields.specs.Fields.{field}
-use Rattle.messages.specs.Reading.{entryAt, Reads, placeAfter, isMessage, counted, countFrom}
-use Rattle.messages.specs.Promises.{Count-of-read}
+use Rattle.fields.specs.Usable.{usableBits}
+use Rattle.messages.specs.Reading.{entryAt, Reads, placeAfter, isMessage, followed, messagesFrom, countFrom}
+use Rattle.messages.specs.Promises.{Messages-of-read, Count-of-read}
 use Rattle.messages.specs.declared.Message.{Message}
 use Rattle.messages.specs.declared.Entry.{Entry}
 use Rattle.messages.specs.declared.Entry.the-variants.{Read, End, Short}
@@ -30,34 +33,57 @@ read-moves s place end m next =
     let i = ap (λ (x : Entry). placeAfter x 0) e in
     record { on = omega (arith, width-bounds (field s place 2)); inside = omega arith })
 
--- what is no message is not counted
-count-none : (s : List ℕ) (place end k : ℕ) → isMessage (entryAt s place end) ≡ false → countFrom k s place end ≡ 0
-unfolding countFrom
-count-none s place end zero h = refl
-count-none s place end (suc k) h = none (entryAt s place end) h
+-- what is no message is not listed
+messages-none : (s : List ℕ) (place end k : ℕ) → isMessage (entryAt s place end) ≡ false → messagesFrom k s place end ≡ []
+unfolding messagesFrom
+messages-none s place end zero h = refl
+messages-none s place end (suc k) h = none (entryAt s place end) h
   where
-    none : (x : Entry) → isMessage x ≡ false → counted x (λ next. countFrom k s next end) ≡ 0
+    none : (x : Entry) → isMessage x ≡ false → followed x (λ next. messagesFrom k s next end) ≡ []
     none (Read m next) h = absurd (false≢true (sym h))
     none End h = refl
     none Short h = refl
 
--- a message is one more than what follows it
-count-more : (s : List ℕ) (place end k : ℕ) (m : Message) (next : ℕ) → entryAt s place end ≡ Read m next → countFrom (suc k) s place end ≡ suc (countFrom k s next end)
-unfolding countFrom
-count-more s place end k m next e = rw e
+-- between a place and itself stands none
+pub nothing-between : (k : ℕ) (s : List ℕ) (place : ℕ) → messagesFrom k s place place ≡ []
+unfolding entryAt
+nothing-between k s place = messages-none s place place k (rw (eq-eqb place place refl) (go (leb place (usableBits (length s)))))
+  where
+    go : (b : Bool) → isMessage (cond b End Short) ≡ false
+    go true = refl
+    go false = refl
+
+-- a message stands before what follows it
+messages-more : (s : List ℕ) (place end k : ℕ) (m : Message) (next : ℕ) → entryAt s place end ≡ Read m next → messagesFrom (suc k) s place end ≡ m ∷ messagesFrom k s next end
+unfolding messagesFrom
+messages-more s place end k m next e = rw e
 
 -- as many turns as there are bits left are enough
-count-up-to : (s : List ℕ) (place end : ℕ) (ms : List Message) (k : ℕ) → end - place ≤ k → Reads s place end ms → countFrom k s place end ≡ length ms
-count-up-to s place end [] k l e = count-none s place end k (ap isMessage e)
-count-up-to s place end (m ∷ ms) zero l (next, e, r) =
+messages-up-to : (s : List ℕ) (place end : ℕ) (ms : List Message) (k : ℕ) → end - place ≤ k → Reads s place end ms → messagesFrom k s place end ≡ ms
+messages-up-to s place end [] k l e = messages-none s place end k (ap isMessage e)
+messages-up-to s place end (m ∷ ms) zero l (next, e, r) =
     let v = read-moves s place end m next e in
     absurd (omega arith)
-count-up-to s place end (m ∷ ms) (suc k) l (next, e, r) =
+messages-up-to s place end (m ∷ ms) (suc k) l (next, e, r) =
     let v = read-moves s place end m next e in
-    count-more s place end k m next e ∙ ap suc (count-up-to s next end ms k (omega arith) r)
+    messages-more s place end k m next e ∙ ap (λ (l : List Message). m ∷ l) (messages-up-to s next end ms k (omega arith) r)
+
+pub messages-of-read : Messages-of-read
+messages-of-read s place end ms r = messages-up-to s place end ms end (omega arith) r
 
 pub count-of-read : Count-of-read
-count-of-read s place end ms r = count-up-to s place end ms end (omega arith) r
+unfolding countFrom
+count-of-read s place end ms r = ap length (messages-of-read s place end ms r)
+
+-- ---- the same, counted
+
+count-none : (s : List ℕ) (place end k : ℕ) → isMessage (entryAt s place end) ≡ false → countFrom k s place end ≡ 0
+unfolding countFrom
+count-none s place end k h = ap length (messages-none s place end k h)
+
+count-more : (s : List ℕ) (place end k : ℕ) (m : Message) (next : ℕ) → entryAt s place end ≡ Read m next → countFrom (suc k) s place end ≡ suc (countFrom k s next end)
+unfolding countFrom
+count-more s place end k m next e = ap length (messages-more s place end k m next e)
 
 -- ---- a loop that counts
 

@@ -6,5 +6,6 @@ pub mod Stands
 pub mod Entries
 pub mod Answers
 pub mod Logs
+pub mod Stretches
 pub mod Counts
 pub mod Outcomes

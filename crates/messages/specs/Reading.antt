@@ -53,13 +53,16 @@ isMessage (Read m next) = true
 isMessage End = false
 isMessage Short = false
 
--- one more than what follows a message; nothing else counts
-abbrev pub counted : Entry → (ℕ → ℕ) → ℕ
-counted (Read m next) rest = suc (rest next)
-counted End rest = 0
-counted Short rest = 0
+-- a message and what follows it; nothing else is one
+abbrev pub followed : Entry → (ℕ → List Message) → List Message
+followed (Read m next) rest = m ∷ rest next
+followed End rest = []
+followed Short rest = []
 
--- how many messages stand one behind the other from place on, at most k
+-- the messages that stand one behind the other from place on, at most k, and how many they are
+unfoldable pub messagesFrom : ℕ → List ℕ → ℕ → ℕ → List Message
+messagesFrom zero s place end = []
+messagesFrom (suc k) s place end = followed (entryAt s place end) (λ next. messagesFrom k s next end)
+
 unfoldable pub countFrom : ℕ → List ℕ → ℕ → ℕ → ℕ
-countFrom zero s place end = 0
-countFrom (suc k) s place end = counted (entryAt s place end) (λ next. countFrom k s next end)
+countFrom k s place end = length (messagesFrom k s place end)

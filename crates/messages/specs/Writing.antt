@@ -38,3 +38,7 @@ logged s place (m ∷ ms) = logged (logAfter s place m) (place + bitsOf m) ms
 unfoldable pub bitsOfAll : List Message → ℕ
 bitsOfAll [] = 0
 bitsOfAll (m ∷ ms) = bitsOf m + bitsOfAll ms
+
+-- they all have room in the usable log of n bytes, from place on
+abbrev pub roomForAll : ℕ → ℕ → List Message → Bool
+roomForAll n place ms = leb (place + bitsOfAll ms) (usableBits n)

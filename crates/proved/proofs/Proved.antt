@@ -16,7 +16,7 @@ use Rattle.messages.specs.Writing.{logAfter, bitsOfAll}
 use Rattle.packed.specs.Parts.{ends}
 use Rattle.requests.specs.Reading as lists
 use Rattle.session.specs.Holding.{pairAt}
-use Rattle.session.specs.Soundness.{within, sound}
+use Rattle.session.specs.Soundness.{inLimits, sound}
 use Rattle.table.specs.Layout.{long, place}
 use Rattle.table.specs.Reading.{nodesFault, refusalOf, parentsOf, readingOf}
 use Rattle.tree.specs.Every.{every}
@@ -27,5 +27,5 @@ use Rattle.tree.specs.Turns.{turn, joined}
 use Rattle.proved.specs.Proved.{replies, end, cases, All-hold}
 
 pub all-hold : All-hold
-unfolding cases leadingZeros weight digit patch bit putBit field putField signed kindOf widthOf recordOf messageOf messageAt entryOf entryAt logAfter ends long place nodesFault refusalOf parentsOf readingOf lists.requestAt lists.after lists.placeOf lists.requestsFrom lists.combinesTo lists.refusalOf lists.judgedOf replies end servedOf heard stepIf sofar ask total sends spread hit cell put applied each raised combines writes afterCombine afterWrite refusals.allFit refusals.refusalOf bitsOfAll pairAt within sound every entryInRule inRule inRange climb below turn joined
+unfolding cases leadingZeros weight digit patch bit putBit field putField signed kindOf widthOf recordOf messageOf messageAt entryOf entryAt logAfter ends long place nodesFault refusalOf parentsOf readingOf lists.requestAt lists.nextPlace lists.placeOf lists.requestsFrom lists.combinesTo lists.refusalOf lists.judgedOf replies end servedOf heard stepIf sofar ask total sends spread hit cell put applied each raised combines writes afterCombine afterWrite refusals.allFit refusals.refusalOf bitsOfAll pairAt inLimits sound every entryInRule inRule inRange climb below turn joined
 all-hold = refl

@@ -9,41 +9,41 @@ use lib.ListN.{length}
 use borrow.Author.Tests.{le-leb, lt-leb, leb-true, leb-false}
 use Rattle.fields.specs.Usable.{usableBits}
 use Rattle.requests.specs.Promises.{Item-exactly, Short-exactly}
-use Rattle.requests.specs.Reading.{requestAt, after, itemAt, told}
+use Rattle.requests.specs.Reading.{requestAt, nextPlace, itemAt, told}
 use Rattle.requests.specs.declared.Request.{Request}
 use Rattle.requests.specs.declared.Item.the-variants.{Found, Short}
 
 module _ (s : List ℕ) (place : ℕ) where
-  pub item-there : after s place ≤ usableBits (length s) → itemAt s place ≡ Found (requestAt s place) (after s place)
+  pub item-there : nextPlace s place ≤ usableBits (length s) → itemAt s place ≡ Found (requestAt s place) (nextPlace s place)
   unfolding itemAt
-  item-there h = rw (le-leb (after s place) (usableBits (length s)) h)
+  item-there h = rw (le-leb (nextPlace s place) (usableBits (length s)) h)
 
-  pub item-cut : usableBits (length s) < after s place → itemAt s place ≡ Short
+  pub item-cut : usableBits (length s) < nextPlace s place → itemAt s place ≡ Short
   unfolding itemAt
-  item-cut h = rw (lt-leb (after s place) (usableBits (length s)) h)
+  item-cut h = rw (lt-leb (nextPlace s place) (usableBits (length s)) h)
 
 pub item-exactly : Item-exactly
 unfolding itemAt
 item-exactly s place next r = (
-  λ e. go (leb (after s place) (usableBits (length s))) refl e,
+  λ e. go (leb (nextPlace s place) (usableBits (length s))) refl e,
   λ h. rw (item-there s place (h .0), h .1, h .2),
 )
   where
-    go : (b : Bool) → leb (after s place) (usableBits (length s)) ≡ b → told (cond b (Found (requestAt s place) (after s place)) Short) ≡ (0, (r, next) ∷ [])
-        → (after s place ≤ usableBits (length s)) × (r ≡ requestAt s place) × (next ≡ after s place)
+    go : (b : Bool) → leb (nextPlace s place) (usableBits (length s)) ≡ b → told (cond b (Found (requestAt s place) (nextPlace s place)) Short) ≡ (0, (r, next) ∷ [])
+        → (nextPlace s place ≤ usableBits (length s)) × (r ≡ requestAt s place) × (next ≡ nextPlace s place)
     go true p e =
-        let l : _≡_ {A = List (Request × ℕ)} ((requestAt s place, after s place) ∷ []) ((r, next) ∷ []) = ap (λ (t : ℕ × List (Request × ℕ)). t .1) e in
-        let q : _≡_ {A = Request × ℕ} (requestAt s place, after s place) (r, next) = cc (l) in
+        let l : _≡_ {A = List (Request × ℕ)} ((requestAt s place, nextPlace s place) ∷ []) ((r, next) ∷ []) = ap (λ (t : ℕ × List (Request × ℕ)). t .1) e in
+        let q : _≡_ {A = Request × ℕ} (requestAt s place, nextPlace s place) (r, next) = cc (l) in
         (leb-true _ _ p, sym (ap (λ (t : Request × ℕ). t .0) q), sym (ap (λ (t : Request × ℕ). t .1) q))
     go false p e = absurd (suc-ne-zero 0 (ap (λ (t : ℕ × List (Request × ℕ)). t .0) e))
 
 pub short-exactly : Short-exactly
 unfolding itemAt
 short-exactly s place = (
-  λ e. go (leb (after s place) (usableBits (length s))) refl e,
+  λ e. go (leb (nextPlace s place) (usableBits (length s))) refl e,
   λ h. ap told (item-cut s place h),
 )
   where
-    go : (b : Bool) → leb (after s place) (usableBits (length s)) ≡ b → told (cond b (Found (requestAt s place) (after s place)) Short) ≡ (1, []) → usableBits (length s) < after s place
+    go : (b : Bool) → leb (nextPlace s place) (usableBits (length s)) ≡ b → told (cond b (Found (requestAt s place) (nextPlace s place)) Short) ≡ (1, []) → usableBits (length s) < nextPlace s place
     go true p e = absurd (suc-ne-zero 0 (sym (ap (λ (t : ℕ × List (Request × ℕ)). t .0) e)))
     go false p e = leb-false _ _ p

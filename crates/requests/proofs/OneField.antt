@@ -12,7 +12,7 @@ use Rattle.fields.proofs.TwoFields.{read-two}
 use Rattle.twos.specs.Twos.{twos, signed}
 use Rattle.twos.proofs.Signs.{twos-lt, signed-twos, twos-signed, signed-mag}
 use Rattle.requests.specs.Lists.{Sized, partOf}
-use Rattle.requests.specs.Reading.{isCombine, requestAt, after}
+use Rattle.requests.specs.Reading.{isCombine, requestAt, nextPlace}
 use Rattle.requests.specs.declared.Request.{Request}
 use Rattle.requests.specs.declared.Request.the-variants.{Combine, Write}
 use Rattle.requests.proofs.Places.{after-combine, after-write}
@@ -21,7 +21,7 @@ use Rattle.requests.proofs.Places.{after-combine, after-write}
 pub record Stands (s : List ℕ) (place : ℕ) (r : Request) : Type 0 where
   pub sized : Sized r
   pub holds : field s place (partOf r .width) ≡ partOf r .number
-  pub ends-at : after s place ≡ place + partOf r .width
+  pub ends-at : nextPlace s place ≡ place + partOf r .width
 
 -- a request's number has room in its field
 pub sized-fits : (r : Request) → Sized r → partOf r .number < 2 ^ partOf r .width

@@ -6,26 +6,26 @@ use native.Mathlib.Decide.{ℕ-discrete}
 use native.Mathlib.Omega.{arith}
 use borrow.Author.Tests.{eq-eqb, ne-eqb}
 use Rattle.fields.specs.Fields.{field}
-use Rattle.requests.specs.Reading.{after, placeOf}
+use Rattle.requests.specs.Reading.{nextPlace, placeOf}
 
 module _ (s : List ℕ) (place : ℕ) where
-  pub after-combine : field s place 1 ≡ 0 → after s place ≡ place + 9
-  unfolding after
+  pub after-combine : field s place 1 ≡ 0 → nextPlace s place ≡ place + 9
+  unfolding nextPlace
   after-combine e = rw (eq-eqb (field s place 1) 0 e)
 
-  pub after-write : (field s place 1 ≡ 0 → ⊥) → after s place ≡ place + 41
-  unfolding after
+  pub after-write : (field s place 1 ≡ 0 → ⊥) → nextPlace s place ≡ place + 41
+  unfolding nextPlace
   after-write e = rw (ne-eqb (field s place 1) 0 e)
 
-  pub after-more : (place + 9 ≤ after s place) × (after s place ≤ place + 41)
+  pub after-more : (place + 9 ≤ nextPlace s place) × (nextPlace s place ≤ place + 41)
   after-more = go (ℕ-discrete (field s place 1) 0)
     where
-      go : Dec (field s place 1 ≡ 0) → (place + 9 ≤ after s place) × (after s place ≤ place + 41)
+      go : Dec (field s place 1 ≡ 0) → (place + 9 ≤ nextPlace s place) × (nextPlace s place ≤ place + 41)
       go (yes d) = let e = after-combine d in (omega arith, omega arith)
       go (no d) = let e = after-write d in (omega arith, omega arith)
 
 module _ (s : List ℕ) where
-  pub place-next : (k : ℕ) → placeOf s (suc k) ≡ after s (placeOf s k)
+  pub place-next : (k : ℕ) → placeOf s (suc k) ≡ nextPlace s (placeOf s k)
   unfolding placeOf
   place-next k = refl
 

@@ -8,7 +8,7 @@ use lib.ListN.{length}
 use Rattle.packed.specs.Parts.{total, Holds}
 use Rattle.requests.specs.Lists.{AllSized, partOf, partsOf, combinesIn}
 use Rattle.requests.specs.Promises.{Counts-right, Read-sized}
-use Rattle.requests.specs.Reading.{after, countAt, placeOf, requestsFrom, combinesTo}
+use Rattle.requests.specs.Reading.{nextPlace, countAt, placeOf, requestsFrom, combinesTo}
 use Rattle.requests.specs.declared.Request.{Request}
 use Rattle.requests.specs.declared.Judged.{Judged}
 use Rattle.requests.proofs.OneField.{stands, read-as}
@@ -18,12 +18,12 @@ module _ (s : List ℕ) where
   pub length-from : (place k : ℕ) → length (requestsFrom s place k) ≡ k
   unfolding requestsFrom
   length-from place zero = refl
-  length-from place (suc k) = ap suc (length-from (after s place) k)
+  length-from place (suc k) = ap suc (length-from (nextPlace s place) k)
 
   sized-from : (place k : ℕ) → AllSized (requestsFrom s place k)
   unfolding requestsFrom
   sized-from place zero = tt
-  sized-from place (suc k) = (stands s place .sized, sized-from (after s place) k)
+  sized-from place (suc k) = (stands s place .sized, sized-from (nextPlace s place) k)
 
   -- from request j on, up to request n
   pub record Run (j n : ℕ) (rs : List Request) : Type 0 where
@@ -43,7 +43,7 @@ module _ (s : List ℕ) where
       record {
         stop = omega (arith, h .ends-at, r .stop);
         sum = omega (arith, r .sum);
-        holds = (h .holds, subst (λ (p : ℕ). Holds s p (partsOf (requestsFrom s (after s place) k))) (h .ends-at) (r .holds));
+        holds = (h .holds, subst (λ (p : ℕ). Holds s p (partsOf (requestsFrom s (nextPlace s place) k))) (h .ends-at) (r .holds));
       }
 
   -- fields that hold requests are read as those requests
@@ -52,7 +52,7 @@ module _ (s : List ℕ) where
   run-back place [] h l = refl
   run-back place (r ∷ rs) h l =
       let e = read-as s place r (h .0) (l .0) in
-      let n : after s place ≡ place + partOf r .width = rw e at (stands s place .ends-at) in
+      let n : nextPlace s place ≡ place + partOf r .width = rw e at (stands s place .ends-at) in
       ap₂ {A = Request} {B = List Request} (λ x y. x ∷ y) e (ap (λ (p : ℕ). requestsFrom s p (length rs)) n ∙ run-back (place + partOf r .width) rs (h .1) (l .1))
 
 pub read-sized : Read-sized

@@ -13,7 +13,7 @@ use Rattle.packed.specs.Parts.{ends}
 use Rattle.packed.proofs.Filling.{ends-exactly, left-over-exactly}
 use Rattle.requests.specs.Lists.{oneIfCombine}
 use Rattle.requests.specs.Format.{Counted, no-count, bad-count, no-request, left-over, whole}
-use Rattle.requests.specs.Reading.{requestAt, after, itemAt, told, placeOf, combinesTo, refused, judgedOf}
+use Rattle.requests.specs.Reading.{requestAt, nextPlace, itemAt, told, placeOf, combinesTo, refused, judgedOf}
 use Rattle.requests.specs.declared.Request.{Request}
 use Rattle.requests.specs.declared.Request.the-variants.{Combine, Write}
 use Rattle.requests.specs.declared.Item.the-variants.{Found, Short}
@@ -61,8 +61,8 @@ module _ (s : List ℕ) (n : ℕ) (g : Counted s n) where
     pub went-few : combines ≤ 4096
     went-few = omega (arith, w .sum, w .turns, g .few, combines-most s k)
 
-    next-place : after s place ≡ placeOf s (suc k)
-    next-place = ap (after s) (w .here) ∙ sym (place-next s k)
+    next-place : nextPlace s place ≡ placeOf s (suc k)
+    next-place = ap (nextPlace s) (w .here) ∙ sym (place-next s k)
 
     module _ (l : k < n) where
       pub went-on : (r : Request) (next more : ℕ) → itemAt s place ≡ Found r next → more ≡ combines + oneIfCombine r → Went s n next more (k + 1)

@@ -8,7 +8,7 @@ use Rattle.fields.specs.Bits.{Bytes}
 use Rattle.fields.specs.Usable.{usableBits}
 use Rattle.requests.specs.Lists.{AllSized, listOf, combinesIn}
 use Rattle.requests.specs.Format.{Ruled}
-use Rattle.requests.specs.Reading.{requestAt, after, itemAt, told, Hands, requestsOf, refused, judgedOf}
+use Rattle.requests.specs.Reading.{requestAt, nextPlace, itemAt, told, Hands, requestsOf, refused, judgedOf}
 use Rattle.requests.specs.declared.Request.{Request}
 
 -- The reader refuses a list exactly as the format says,
@@ -33,11 +33,11 @@ Read-sized = (s : List ℕ) → AllSized (requestsOf s)
 
 -- A request is found at a place exactly where all of it lies in the usable bytes,
 abbrev pub Item-exactly : Type 0
-Item-exactly = (s : List ℕ) (place next : ℕ) (r : Request) → (told (itemAt s place) ≡ (0, (r, next) ∷ [])) ↔ ((after s place ≤ usableBits (length s)) × (r ≡ requestAt s place) × (next ≡ after s place))
+Item-exactly = (s : List ℕ) (place next : ℕ) (r : Request) → (told (itemAt s place) ≡ (0, (r, next) ∷ [])) ↔ ((nextPlace s place ≤ usableBits (length s)) × (r ≡ requestAt s place) × (next ≡ nextPlace s place))
 
 -- and 1 is answered exactly everywhere else.
 abbrev pub Short-exactly : Type 0
-Short-exactly = (s : List ℕ) (place : ℕ) → (told (itemAt s place) ≡ (1, [])) ↔ (usableBits (length s) < after s place)
+Short-exactly = (s : List ℕ) (place : ℕ) → (told (itemAt s place) ≡ (1, [])) ↔ (usableBits (length s) < nextPlace s place)
 
 -- The requests of an accepted list are handed out one behind the other, from its first place on.
 abbrev pub Handed-out : Type 0

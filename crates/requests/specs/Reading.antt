@@ -25,11 +25,11 @@ isCombine s place = eqb (field s place 1) 0
 unfoldable pub requestAt : List ℕ → ℕ → Request
 requestAt s place = cond (isCombine s place) (Combine (field s (place + 1) 8)) (Write (field s (place + 1) 8) (signed 32 (field s (place + 9) 32)))
 
-unfoldable pub after : List ℕ → ℕ → ℕ
-after s place = place + cond (isCombine s place) 9 41
+unfoldable pub nextPlace : List ℕ → ℕ → ℕ
+nextPlace s place = place + cond (isCombine s place) 9 41
 
 unfoldable pub itemAt : List ℕ → ℕ → Item
-itemAt s place = cond (leb (after s place) (usableBits (length s))) (Found (requestAt s place) (after s place)) Short
+itemAt s place = cond (leb (nextPlace s place) (usableBits (length s))) (Found (requestAt s place) (nextPlace s place)) Short
 
 -- document 01's number, and the request with the next place if there is one
 abbrev pub told : Item → ℕ × List (Request × ℕ)
@@ -49,12 +49,12 @@ countAt s = field s 0 13
 -- where request k stands, counted from 0; placeOf s n is where n requests end
 unfoldable pub placeOf : List ℕ → ℕ → ℕ
 placeOf s zero = 13
-placeOf s (suc k) = after s (placeOf s k)
+placeOf s (suc k) = nextPlace s (placeOf s k)
 
 -- k requests from a place on, and those of the whole list
 unfoldable pub requestsFrom : List ℕ → ℕ → ℕ → List Request
 requestsFrom s place zero = []
-requestsFrom s place (suc k) = requestAt s place ∷ requestsFrom s (after s place) k
+requestsFrom s place (suc k) = requestAt s place ∷ requestsFrom s (nextPlace s place) k
 
 abbrev pub requestsOf : List ℕ → List Request
 requestsOf s = requestsFrom s 13 (countAt s)

@@ -1,11 +1,11 @@
 -- What is promised of one ordered pair. The theorem that proves a statement bears its name in small letters.
 use mathlib.Core.Path.{_≡_}
-use mathlib.Core.Bool.{Bool, true}
+use mathlib.Core.Bool.{true}
 use mathlib.Core.Logic.{_↔_}
-use mathlib.Core.List.{List, [], _∷_, _++_}
+use mathlib.Core.List.{List, [], _∷_}
 use Prim.Native.Nat.{ℕ, _+_, _*_, _≤_}
 use lib.ListN.{length, replicate}
-use Rattle.rule.specs.Pair.{Request, combine, write, belongs, own, next, price, numberAfter, messages, rounds}
+use Rattle.rule.specs.Pair.{Request, combine, write, numberAfter, messages, rounds}
 use Rattle.rule.specs.Schedules.{Mode, off, Schedule, staysOff}
 use Rattle.rule.specs.Configurations.{Configuration, potential}
 
@@ -34,16 +34,6 @@ Granted = (b k n : ℕ) → 1 ≤ n → numberAfter b k (replicate n combine) �
 
 abbrev pub Broken-exactly : Type 0
 Broken-exactly = (b k n : ℕ) → (numberAfter b k (combine ∷ replicate n write) ≡ 0) ↔ (b ≤ n)
-
--- One request more at the end: the pair's own list, the number and the messages after it.
-abbrev pub Own-more : Type 1
-Own-more = (Q : Type 0) (kind : Q → Request) (near : Q → Bool) (l : List Q) (q : Q) → own kind near (l ++ (q ∷ [])) ≡ own kind near l ++ belongs (kind q) (near q) []
-
-abbrev pub Number-more : Type 0
-Number-more = (b k : ℕ) (l : List Request) (r : Request) → numberAfter b k (l ++ (r ∷ [])) ≡ next b (numberAfter b k l) r
-
-abbrev pub Messages-more : Type 0
-Messages-more = (b k : ℕ) (l : List Request) (r : Request) → messages b k (l ++ (r ∷ [])) ≡ messages b k l + price (numberAfter b k l) r
 
 -- The number is at most the break count.
 abbrev pub Number-most : Type 0

@@ -13,20 +13,20 @@ use Rattle.tree.specs.Ranges.{inRange}
 use Rattle.tree.specs.Every.{every}
 use Rattle.tree.proofs.Cases.{lt-or-le}
 use Rattle.tree.proofs.Every.{every-at, every-of}
-use Rattle.session.specs.Soundness.{Unused, within, zeroAt}
+use Rattle.session.specs.Soundness.{Unused, inLimits, zeroAt}
 use Rattle.session.specs.Passes.{entry, values}
 use Rattle.session.specs.declared.Pairs.{Pairs}
-use Rattle.session.proofs.Limits.{only-zero, zero-in, within-parts, within-of, entry-used, entry-unused}
+use Rattle.session.proofs.Limits.{only-zero, zero-in, limits-parts, limits-of, entry-used, entry-unused}
 
 -- ---- an entry that is zero
 
 pub zero-parts : (p : Pairs) (i : ℕ) → zeroAt p i ≡ true → Unused p i
 zero-parts p i e =
-    let q = within-parts 0 0 0 (getD (p .lease) i 0) (getD (p .cache) i (pos 0)) (getD (p .messages) i 0) e in
+    let q = limits-parts 0 0 0 (getD (p .lease) i 0) (getD (p .cache) i (pos 0)) (getD (p .messages) i 0) e in
     record { no-lease = omega arith; no-cache = only-zero (getD (p .cache) i (pos 0)) (q .1 .1); no-messages = omega arith }
 
 pub zero-of : (p : Pairs) (i : ℕ) → Unused p i → zeroAt p i ≡ true
-zero-of p i u = within-of 0 0 0 (getD (p .lease) i 0) (getD (p .cache) i (pos 0)) (getD (p .messages) i 0) (omega (arith, u .no-lease)) (omega (arith, u .no-messages)) (zero-in (getD (p .cache) i (pos 0)) (u .no-cache))
+zero-of p i u = limits-of 0 0 0 (getD (p .lease) i 0) (getD (p .cache) i (pos 0)) (getD (p .messages) i 0) (omega (arith, u .no-lease)) (omega (arith, u .no-messages)) (zero-in (getD (p .cache) i (pos 0)) (u .no-cache))
 
 -- ---- all entries of a pass, k the nodes on the near side of each
 
@@ -35,7 +35,7 @@ module _ (n twice : ℕ) (k : ℕ → ℕ) (p : Pairs) where
   entryOf i = entry n i twice (k i) (getD (p .lease) i 0) (getD (p .cache) i (pos 0)) (getD (p .messages) i 0)
 
   abbrev usedOf : ℕ → Bool
-  usedOf i = within 2 (k i) twice (getD (p .lease) i 0) (getD (p .cache) i (pos 0)) (getD (p .messages) i 0)
+  usedOf i = inLimits 2 (k i) twice (getD (p .lease) i 0) (getD (p .cache) i (pos 0)) (getD (p .messages) i 0)
 
   pub used-at : every entryOf 256 ≡ true → n ≤ 256 → (i : ℕ) → 0 < i → i < n → usedOf i ≡ true
   used-at e f i z h = sym (entry-used n i twice (k i) (getD (p .lease) i 0) (getD (p .cache) i (pos 0)) (getD (p .messages) i 0) z h) ∙ every-at entryOf 256 i e (omega arith)

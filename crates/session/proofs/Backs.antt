@@ -3,14 +3,13 @@ use mathlib.Core.Path.{_≡_, refl, subst, _∙_}
 use mathlib.Core.Bool.{Bool, true, false}
 use mathlib.Core.List.{List}
 use Prim.Native.Nat.{ℕ}
-use native.Mathlib.Decide.{ℕ-discrete}
 use native.Mathlib.Omega.{arith}
 use lib.ListN.{length, take}
 use Rattle.tree.specs.Parents.{inRule}
-use Rattle.tree.proofs.Cases.{either, lt-or-le}
+use Rattle.tree.proofs.Cases.{lt-or-le}
 use Rattle.tree.proofs.InRule.{in-rule-exactly}
 use Rattle.table.specs.Layout.{size}
-use Rattle.table.specs.Reading.{treeOf, readingOf}
+use Rattle.table.specs.Reading.{treeOf}
 use Rattle.table.specs.Writing as table
 use Rattle.table.specs.declared.Written.{Written}
 use Rattle.table.proofs.RoundTrip as table-laws
@@ -21,7 +20,7 @@ use Rattle.session.specs.Starting.{freshOf, loadedOf}
 use Rattle.session.specs.Tables.{Answered, six, nine, done, writtenOf, outputOf}
 use Rattle.session.specs.declared.Session.{Session}
 use Rattle.session.proofs.Soundly.{sound-exactly, sound-holds}
-use Rattle.session.proofs.Starts.{fresh-sound, loads-not, load-accepts}
+use Rattle.session.proofs.Starts.{fresh-sound, load-accepts, read-well}
 
 -- ---- a sound session's table is that of its tree, and an unsound one has none
 
@@ -73,9 +72,6 @@ written-exactly s room w = (λ e. subst (Answered s room) e (answered s room), i
 -- ---- the two ways round
 
 -- a table that was loaded was read without refusal
-read-well : (s : Session) (bytes : List ℕ) → loadedOf s bytes .refusal ≡ 0 → readingOf bytes .refusal ≡ 0
-read-well s bytes e = either (ℕ-discrete (readingOf bytes .refusal) 0) (λ z. z) (λ d. absurd (d (rw (loads-not s bytes d) at e)))
-
 pub loaded-writes-back : Loaded-writes-back
 loaded-writes-back s bytes out b e l =
     let a = reading-accepted bytes (ruled-exactly bytes 0 .0 (read-well s bytes e)) in

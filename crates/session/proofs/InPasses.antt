@@ -19,11 +19,11 @@ use Rattle.tree.proofs.Listed.{sizes-read}
 use Rattle.tree.proofs.Sizes.{sizes-add, size-below}
 use Rattle.session.specs.Holding.{leaseOf, cacheOf, sentOf, Typed}
 use Rattle.session.specs.Passes.{pairs, values, ordered}
-use Rattle.session.specs.Soundness.{limit, Sound, within, sound}
+use Rattle.session.specs.Soundness.{limit, Sound, inLimits, sound}
 use Rattle.session.specs.declared.Session.{Session}
 use Rattle.session.proofs.Indices.{pair-up, pair-down, to-child, to-parent, by-child}
 use Rattle.session.proofs.AllEntries.{used-at, unused-at, entries-of, value-at, values-of}
-use Rattle.session.proofs.Limits.{within-parts, within-of}
+use Rattle.session.proofs.Limits.{limits-parts, limits-of}
 use Rattle.session.proofs.Ordering.{pass-says, pass-holds, by-kind, of-kinds}
 use Rattle.session.proofs.Soundly.{limits, sound-exactly}
 
@@ -66,12 +66,12 @@ module _ (s : Session) where
 
   -- the entries at a child's place are those of both pairs of its edge
   module _ (r : InRule ps n) (i : ℕ) (z : 0 < i) (h : i < n) where
-    up-limits : within 2 (getD (sizes ps n) i 0) twice (getD (s .up .lease) i 0) (getD (s .up .cache) i (pos 0)) (getD (s .up .messages) i 0) ≡ limits 2 s i (parent ps i)
+    up-limits : inLimits 2 (getD (sizes ps n) i 0) twice (getD (s .up .lease) i 0) (getD (s .up .cache) i (pos 0)) (getD (s .up .messages) i 0) ≡ limits 2 s i (parent ps i)
     up-limits =
         let g = r .grown i z h in
         rw (sizes-read ps n r i (omega (arith, r .few)), size-below ps n (r .grown) i z h, pair-up 0 (s .up .lease) (s .down .lease) i (parent ps i) g, pair-up (pos 0) (s .up .cache) (s .down .cache) i (parent ps i) g, pair-up 0 (s .up .messages) (s .down .messages) i (parent ps i) g)
 
-    down-limits : within 2 (n - getD (sizes ps n) i 0) twice (getD (s .down .lease) i 0) (getD (s .down .cache) i (pos 0)) (getD (s .down .messages) i 0) ≡ limits 2 s (parent ps i) i
+    down-limits : inLimits 2 (n - getD (sizes ps n) i 0) twice (getD (s .down .lease) i 0) (getD (s .down .cache) i (pos 0)) (getD (s .down .messages) i 0) ≡ limits 2 s (parent ps i) i
     down-limits =
         let g = r .grown i z h in
         let e : n - getD (sizes ps n) i 0 ≡ size ps n (parent ps i) i =
@@ -91,7 +91,7 @@ module _ (s : Session) where
       r = f .tree-in-rule
 
       all-limits : (u v : ℕ) → u < n → v < n → adjacent ps v u ≡ true → limits 2 s u v ≡ true
-      all-limits u v hu hv a = within-of 2 _ _ (leaseOf s u v) (cacheOf s u v) (sentOf s u v) (f .low u v hu hv a) (f .paid u v hu hv a) (f .caches-in u v hu hv a .within)
+      all-limits u v hu hv a = limits-of 2 _ _ (leaseOf s u v) (cacheOf s u v) (sentOf s u v) (f .low u v hu hv a) (f .paid u v hu hv a) (f .caches-in u v hu hv a .within)
 
       near-passes : nearPass ≡ true
       unfolding pairs
@@ -132,7 +132,7 @@ module _ (s : Session) where
       where
         parts : (u v : ℕ) → u < n → v < n → adjacent ps v u ≡ true → (leaseOf s u v ≤ 2) × ((sentOf s u v ≤ twice) × (inRange (size ps n u v) (cacheOf s u v) ≡ true))
         parts u v hu hv e =
-            within-parts 2 _ _ (leaseOf s u v) (cacheOf s u v) (sentOf s u v)
+            limits-parts 2 _ _ (leaseOf s u v) (cacheOf s u v) (sentOf s u v)
             (by-child ps n (r .grown) (λ u v. limits 2 s u v ≡ true)
             (λ i z h. sym (up-limits r i z h) ∙ used-at n twice (λ i. getD (sizes ps n) i 0) (s .up) a (r .few) i z h)
             (λ i z h. sym (down-limits r i z h) ∙ used-at n twice (λ i. n - getD (sizes ps n) i 0) (s .down) b (r .few) i z h) u v hu hv e)

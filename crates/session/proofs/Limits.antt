@@ -13,7 +13,7 @@ use mir.Val.{SFits, toZ, ofZ}
 use mir.Facts.{toZ-ofZ}
 use Rattle.tree.specs.Ranges.{inRange}
 use Rattle.tree.proofs.Cases.{never}
-use Rattle.session.specs.Soundness.{within}
+use Rattle.session.specs.Soundness.{inLimits}
 use Rattle.session.specs.Passes.{entry}
 
 -- ---- the range: its lower end has 64 bits
@@ -78,44 +78,44 @@ other-bits z f = never (inRange 0 z) (λ e. f (ap (ofZ w32) (only-zero z e)))
 -- ---- lease number, messages and cache
 
 module _ (b k twice lease : ℕ) (cache : ℤ) (messages : ℕ) where
-  pub lease-above : b < lease → within b k twice lease cache messages ≡ false
-  unfolding within
+  pub lease-above : b < lease → inLimits b k twice lease cache messages ≡ false
+  unfolding inLimits
   lease-above h = rw (lt-leb lease b h)
 
-  pub messages-above : twice < messages → within b k twice lease cache messages ≡ false
-  unfolding within
+  pub messages-above : twice < messages → inLimits b k twice lease cache messages ≡ false
+  unfolding inLimits
   messages-above h = rw (lt-leb messages twice h, and-false (leb lease b))
 
-  pub range-left : lease ≤ b → messages ≤ twice → within b k twice lease cache messages ≡ inRange k cache
-  unfolding within
+  pub range-left : lease ≤ b → messages ≤ twice → inLimits b k twice lease cache messages ≡ inRange k cache
+  unfolding inLimits
   range-left g h = rw (le-leb lease b g, le-leb messages twice h)
 
   -- what they say together
-  pub within-parts : within b k twice lease cache messages ≡ true → (lease ≤ b) × ((messages ≤ twice) × (inRange k cache ≡ true))
-  unfolding within
-  within-parts e =
+  pub limits-parts : inLimits b k twice lease cache messages ≡ true → (lease ≤ b) × ((messages ≤ twice) × (inRange k cache ≡ true))
+  unfolding inLimits
+  limits-parts e =
       let p = and-eq-true-iff (leb lease b) (leb messages twice && inRange k cache) .0 e in
       let q = and-eq-true-iff (leb messages twice) (inRange k cache) .0 (p .1) in
       (leb-true lease b (p .0), (leb-true messages twice (q .0), q .1))
 
-  pub within-of : lease ≤ b → messages ≤ twice → inRange k cache ≡ true → within b k twice lease cache messages ≡ true
-  within-of g h e = range-left g h ∙ e
+  pub limits-of : lease ≤ b → messages ≤ twice → inRange k cache ≡ true → inLimits b k twice lease cache messages ≡ true
+  limits-of g h e = range-left g h ∙ e
 
 -- ---- an entry that is used, and one that is not
 
 module _ (n i twice k lease : ℕ) (cache : ℤ) (messages : ℕ) where
-  pub as-used : (r : Bool) (b : ℕ) → r ≡ within b k twice lease cache messages → b ≡ 2 → (ltb 0 i && ltb i n) ≡ true → r ≡ entry n i twice k lease cache messages
+  pub as-used : (r : Bool) (b : ℕ) → r ≡ inLimits b k twice lease cache messages → b ≡ 2 → (ltb 0 i && ltb i n) ≡ true → r ≡ entry n i twice k lease cache messages
   unfolding entry
   as-used r b told e t = told ∙ rw (t, e)
 
-  pub as-unused : (r : Bool) → r ≡ within 0 0 0 lease cache messages → (ltb 0 i && ltb i n) ≡ false → r ≡ entry n i twice k lease cache messages
+  pub as-unused : (r : Bool) → r ≡ inLimits 0 0 0 lease cache messages → (ltb 0 i && ltb i n) ≡ false → r ≡ entry n i twice k lease cache messages
   unfolding entry
   as-unused r told t = told ∙ rw t
 
-  pub entry-used : 0 < i → i < n → entry n i twice k lease cache messages ≡ within 2 k twice lease cache messages
+  pub entry-used : 0 < i → i < n → entry n i twice k lease cache messages ≡ inLimits 2 k twice lease cache messages
   entry-used z h = sym (as-used _ 2 refl refl (ap₂ _&&_ (lt-ltb 0 i z) (lt-ltb i n h)))
 
-  pub entry-unused : (i ≡ 0) ⊎ (n ≤ i) → entry n i twice k lease cache messages ≡ within 0 0 0 lease cache messages
+  pub entry-unused : (i ≡ 0) ⊎ (n ≤ i) → entry n i twice k lease cache messages ≡ inLimits 0 0 0 lease cache messages
   entry-unused (inl e) = sym (as-unused _ refl (rw (le-ltb 0 i (omega arith))))
   entry-unused (inr h) = sym (as-unused _ refl (rw (le-ltb i n h, and-false (ltb 0 i))))
 

@@ -16,11 +16,11 @@ use Rattle.tree.proofs.InRule.{in-rule-exactly}
 use Rattle.session.specs.Holding.{valueOf, leaseOf, cacheOf, sentOf}
 use Rattle.session.specs.Passes.{values}
 use Rattle.session.specs.Promises.{Sound-exactly}
-use Rattle.session.specs.Soundness.{limit, Sound, everyPair, everyTwo, within, zeroAt, noPair, sound}
+use Rattle.session.specs.Soundness.{limit, Sound, everyPair, everyTwo, inLimits, zeroAt, noPair, sound}
 use Rattle.session.specs.declared.Session.{Session}
 use Rattle.session.proofs.Indices.{held-if, if-held, pair-at, pair-of, two-at, two-of}
 use Rattle.session.proofs.AllEntries.{zero-parts, zero-of, value-at, values-of}
-use Rattle.session.proofs.Limits.{within-parts, within-of}
+use Rattle.session.proofs.Limits.{limits-parts, limits-of}
 
 -- there is no node i that has a pair
 no-pair-of : (n i : ℕ) → (i ≡ 0) ⊎ (n ≤ i) → noPair n i ≡ true
@@ -35,7 +35,7 @@ no-pair-is n i e = lt-or-le 0 i
 -- the tests of a session, one by one
 module _ (b : ℕ) (s : Session) where
   abbrev pub limits : ℕ → ℕ → Bool
-  limits u v = within b (size (s .tree .parents) (s .tree .count) u v) (2 * s .accepted) (leaseOf s u v) (cacheOf s u v) (sentOf s u v)
+  limits u v = inLimits b (size (s .tree .parents) (s .tree .count) u v) (2 * s .accepted) (leaseOf s u v) (cacheOf s u v) (sentOf s u v)
 
   abbrev inequality : ℕ → ℕ → ℕ → Bool
   inequality r u v = leb (leaseOf s u v) (leaseOf s r u)
@@ -58,11 +58,11 @@ module _ (b : ℕ) (s : Session) where
       let w = and-eq-true-iff (every zeros 256) empties .0 (t .1) in
       record {
         tree-in-rule = in-rule-exactly ps n .0 (p .0);
-        low = λ u v hu hv a. within-parts b _ _ (leaseOf s u v) (cacheOf s u v) (sentOf s u v) (pair-at ps n limits (r .0) u v hu hv a) .0;
+        low = λ u v hu hv a. limits-parts b _ _ (leaseOf s u v) (cacheOf s u v) (sentOf s u v) (pair-at ps n limits (r .0) u v hu hv a) .0;
         ordered = λ r u v hr hu hv a b d. leb-true (leaseOf s u v) (leaseOf s r u) (two-at ps n inequality (t .0) r u v hr hu hv a b d);
-        caches-in = λ u v hu hv a. record { within = within-parts b _ _ (leaseOf s u v) (cacheOf s u v) (sentOf s u v) (pair-at ps n limits (r .0) u v hu hv a) .1 .1 };
+        caches-in = λ u v hu hv a. record { within = limits-parts b _ _ (leaseOf s u v) (cacheOf s u v) (sentOf s u v) (pair-at ps n limits (r .0) u v hu hv a) .1 .1 };
         few = leb-true (s .accepted) limit (q .0);
-        paid = λ u v hu hv a. within-parts b _ _ (leaseOf s u v) (cacheOf s u v) (sentOf s u v) (pair-at ps n limits (r .0) u v hu hv a) .1 .0;
+        paid = λ u v hu hv a. limits-parts b _ _ (leaseOf s u v) (cacheOf s u v) (sentOf s u v) (pair-at ps n limits (r .0) u v hu hv a) .1 .0;
         no-pairs = λ i h u.
             let z = and-eq-true-iff (zeroAt (s .up) i) (zeroAt (s .down) i) .0 (held-if (noPair n i) (zeroAt (s .up) i && zeroAt (s .down) i) (every-at zeros 256 i (w .0) h) (no-pair-of n i u)) in
             (zero-parts (s .up) i (z .0), zero-parts (s .down) i (z .1));
@@ -76,7 +76,7 @@ module _ (b : ℕ) (s : Session) where
       let n = s .tree .count in
       ap₂ _&&_ (in-rule-exactly ps n .1 (f .tree-in-rule))
       (ap₂ _&&_ (le-leb (s .accepted) limit (f .few))
-      (ap₂ _&&_ (pair-of ps n limits (λ u v hu hv a. within-of b _ _ (leaseOf s u v) (cacheOf s u v) (sentOf s u v) (f .low u v hu hv a) (f .paid u v hu hv a) (f .caches-in u v hu hv a .within)))
+      (ap₂ _&&_ (pair-of ps n limits (λ u v hu hv a. limits-of b _ _ (leaseOf s u v) (cacheOf s u v) (sentOf s u v) (f .low u v hu hv a) (f .paid u v hu hv a) (f .caches-in u v hu hv a .within)))
       (ap₂ _&&_ (two-of ps n inequality (λ r u v hr hu hv a b d. le-leb (leaseOf s u v) (leaseOf s r u) (f .ordered r u v hr hu hv a b d)))
       (ap₂ _&&_ (every-of zeros 256 (λ i h. if-held (noPair n i) _ (λ o. let z = f .no-pairs i h (no-pair-is n i o) in ap₂ _&&_ (zero-of (s .up) i (z .0)) (zero-of (s .down) i (z .1)))))
       (values-of n (s .values) (f .no-values))))))

@@ -5,6 +5,7 @@ use mathlib.Core.Logic.{_≢_}
 use mathlib.Core.List.{List}
 use Prim.Native.Nat.{ℕ, zero, suc, _<_}
 use native.Mathlib.Nat.{not-suc-le-zero}
+use native.Mathlib.Decide.{ℕ-discrete}
 use native.Mathlib.Omega.{arith}
 use lib.Dec.{ltb}
 use lib.IntN.{pos}
@@ -12,6 +13,7 @@ use lib.ListN.{getD, replicate}
 use borrow.Author.Tests.{eq-eqb, ne-eqb}
 use Rattle.tree.specs.Parents.{InRule, inRule}
 use Rattle.tree.specs.declared.Tree.{Tree}
+use Rattle.tree.proofs.Cases.{either}
 use Rattle.tree.proofs.InRule.{in-rule-exactly}
 use Rattle.table.specs.Reading.{readingOf}
 use Rattle.table.proofs.Tables.{accepted-rule}
@@ -25,12 +27,13 @@ use Rattle.session.proofs.Limits.{zero-in-range}
 
 -- ---- zeros are within every limit
 
-all-same : {A : Type 0} (d : A) (n i : ℕ) → getD (replicate n d) i d ≡ d
+-- a list of zeros is zero everywhere, and so is each pair of two such lists
+pub all-same : {A : Type 0} (d : A) (n i : ℕ) → getD (replicate n d) i d ≡ d
 all-same d zero i = refl
 all-same d (suc n) zero = refl
 all-same d (suc n) (suc i) = all-same d n i
 
-pair-same : {A : Type 0} (d : A) (u v : ℕ) → pairAt d (replicate 256 d) (replicate 256 d) u v ≡ d
+pub pair-same : {A : Type 0} (d : A) (u v : ℕ) → pairAt d (replicate 256 d) (replicate 256 d) u v ≡ d
 unfolding pairAt
 pair-same d u v = go (ltb v u)
   where
@@ -57,7 +60,7 @@ fresh-sound b t r =
 -- ---- what starting answers
 
 module _ (t : Tree) where
-  started : InRule (t .parents) (t .count) → startedOf t ≡ record { refusal = 0; session = freshOf t }
+  pub started : InRule (t .parents) (t .count) → startedOf t ≡ record { refusal = 0; session = freshOf t }
   unfolding startedOf
   started r = rw (in-rule-exactly (t .parents) (t .count) .1 r)
 
@@ -92,6 +95,10 @@ module _ (s : Session) (bytes : List ℕ) where
   pub loads-not : readingOf bytes .refusal ≢ 0 → loadedOf s bytes ≡ record { refusal = readingOf bytes .refusal; session = s }
   unfolding loadedOf
   loads-not d = rw (ne-eqb (readingOf bytes .refusal) 0 d)
+
+  -- an accepted load is an accepted table
+  pub read-well : loadedOf s bytes .refusal ≡ 0 → readingOf bytes .refusal ≡ 0
+  read-well e = either (ℕ-discrete (readingOf bytes .refusal) 0) (λ z. z) (λ d. absurd (d (rw (loads-not d) at e)))
 
 pub load-refuses : Load-refuses
 load-refuses s bytes h = loads-not s bytes (omega arith)

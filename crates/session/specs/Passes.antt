@@ -8,36 +8,36 @@ use lib.ListN.{getD, set}
 use Rattle.tree.specs.Every.{every}
 use Rattle.tree.specs.Parents.{parent}
 use Rattle.tree.specs.Ranges.{inRange}
-use Rattle.session.specs.Soundness.{within}
+use Rattle.session.specs.Soundness.{inLimits}
 
 -- the entry at i of a pair whose near side has k nodes
 unfoldable pub entry : ℕ → ℕ → ℕ → ℕ → ℕ → ℤ → ℕ → Bool
-entry n i twice k lease cache messages = cond (ltb 0 i && ltb i n) (within 2 k twice lease cache messages) (within 0 0 0 lease cache messages)
+entry n i twice k lease cache messages = cond (ltb 0 i && ltb i n) (inLimits 2 k twice lease cache messages) (inLimits 0 0 0 lease cache messages)
 
 -- how many nodes are on the near side, k of n below the child: they, or for a pair from parent to child the rest
-abbrev pub side : ℕ → Bool → ℕ → ℕ
-side n false k = k
-side n true k = n - k
+abbrev pub nearSize : ℕ → Bool → ℕ → ℕ
+nearSize n false k = k
+nearSize n true k = n - k
 
 -- all entries of one direction; ks has the nodes at or below each node
 unfoldable pub pairs : ℕ → ℕ → Bool → List ℕ → List ℕ → List ℤ → List ℕ → Bool
-pairs n twice down ks leases caches counts = every (λ i. entry n i twice (side n down (getD ks i 0)) (getD leases i 0) (getD caches i (pos 0)) (getD counts i 0)) 256
+pairs n twice down ks leases caches counts = every (λ i. entry n i twice (nearSize n down (getD ks i 0)) (getD leases i 0) (getD caches i (pos 0)) (getD counts i 0)) 256
 
 -- all values of nodes that are not there
 unfoldable pub values : ℕ → List ℤ → Bool
 values n vs = every (λ i. ltb i n || inRange 0 (getD vs i (pos 0))) 256
 
 -- what each node keeps of its children 1 to k, from a start on
-unfoldable pub kept : (ℕ → ℕ → ℕ) → List ℕ → List ℕ → List ℕ → ℕ → List ℕ
-kept join ps start told zero = start
-kept join ps start told (suc k) = set (kept join ps start told k) (parent ps (suc k)) (join (getD (kept join ps start told k) (parent ps (suc k)) 0) (getD told (suc k) 0))
+unfoldable pub fromChildren : (ℕ → ℕ → ℕ) → List ℕ → List ℕ → List ℕ → ℕ → List ℕ
+fromChildren join ps start told zero = start
+fromChildren join ps start told (suc k) = set (fromChildren join ps start told k) (parent ps (suc k)) (join (getD (fromChildren join ps start told k) (parent ps (suc k)) 0) (getD told (suc k) 0))
 
 -- the largest number of a pair out of each node, and the smallest of a pair into it, of its parent and of its children 1 to k
 abbrev pub highs : List ℕ → List ℕ → List ℕ → ℕ → List ℕ
-highs ps up down k = kept max ps up down k
+highs ps up down k = fromChildren max ps up down k
 
 abbrev pub lows : List ℕ → List ℕ → List ℕ → ℕ → List ℕ
-lows ps up down k = kept min ps (set down 0 255) up k
+lows ps up down k = fromChildren min ps (set down 0 255) up k
 
 -- the child k + 1 is in order with its parent's neighbours before it
 abbrev pub orderedAt : List ℕ → List ℕ → List ℕ → ℕ → Bool

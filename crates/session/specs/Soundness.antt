@@ -57,12 +57,12 @@ abbrev pub everyTwo : List ℕ → ℕ → (ℕ → ℕ → ℕ → Bool) → Bo
 everyTwo ps n test = everyPair ps n (λ u v. every (λ r. not (other ps u v r) || test r u v) n)
 
 -- lease number, cache and messages are within their limits
-unfoldable pub within : ℕ → ℕ → ℕ → ℕ → ℤ → ℕ → Bool
-within b k twice lease cache messages = leb lease b && (leb messages twice && inRange k cache)
+unfoldable pub inLimits : ℕ → ℕ → ℕ → ℕ → ℤ → ℕ → Bool
+inLimits b k twice lease cache messages = leb lease b && (leb messages twice && inRange k cache)
 
 -- an entry of a pair is zero; there is no node i that has one
 abbrev pub zeroAt : Pairs → ℕ → Bool
-zeroAt p i = within 0 0 0 (getD (p .lease) i 0) (getD (p .cache) i (pos 0)) (getD (p .messages) i 0)
+zeroAt p i = inLimits 0 0 0 (getD (p .lease) i 0) (getD (p .cache) i (pos 0)) (getD (p .messages) i 0)
 
 abbrev pub noPair : ℕ → ℕ → Bool
 noPair n i = not (ltb 0 i && ltb i n)
@@ -71,7 +71,7 @@ unfoldable pub sound : ℕ → Session → Bool
 sound b s =
     inRule (s .tree .parents) (s .tree .count)
     && (leb (s .accepted) limit
-    && (everyPair (s .tree .parents) (s .tree .count) (λ u v. within b (size (s .tree .parents) (s .tree .count) u v) (2 * s .accepted) (leaseOf s u v) (cacheOf s u v) (sentOf s u v))
+    && (everyPair (s .tree .parents) (s .tree .count) (λ u v. inLimits b (size (s .tree .parents) (s .tree .count) u v) (2 * s .accepted) (leaseOf s u v) (cacheOf s u v) (sentOf s u v))
     && (everyTwo (s .tree .parents) (s .tree .count) (λ r u v. leb (leaseOf s u v) (leaseOf s r u))
     && (every (λ i. not (noPair (s .tree .count) i) || (zeroAt (s .up) i && zeroAt (s .down) i)) 256
     && every (λ i. ltb i (s .tree .count) || inRange 0 (valueOf s i)) 256))))

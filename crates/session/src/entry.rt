@@ -25,7 +25,7 @@ pub fn pairs<'a>(
             count,
             i,
             twice,
-            side(count, down, sizes[i]),
+            near_size(count, down, sizes[i]),
             lease[i],
             cache[i],
             messages[i],
@@ -56,14 +56,14 @@ fn entry(count: u16, i: usize, twice: u32, size: u16, lease: u8, cache: i64, mes
     ensures { λ r. ⌜ r ≡ pass.entry count i twice size lease cache messages ⌝ }
 {
     if (0 < i) & (i < count as usize) {
-        return within(2, size, twice, lease, cache, messages);
+        return in_limits(2, size, twice, lease, cache, messages);
     }
-    within(0, 0, 0, lease, cache, messages)
+    in_limits(0, 0, 0, lease, cache, messages)
 }
 
 // Whether lease number, cache and messages are within their limits.
-fn within(most: u8, size: u16, twice: u32, lease: u8, cache: i64, messages: u32) -> bool
-    ensures { λ r. ⌜ r ≡ spec.within most size twice lease cache messages ⌝ }
+fn in_limits(most: u8, size: u16, twice: u32, lease: u8, cache: i64, messages: u32) -> bool
+    ensures { λ r. ⌜ r ≡ spec.inLimits most size twice lease cache messages ⌝ }
 {
     if most < lease {
         return false;
@@ -86,8 +86,8 @@ fn in_range(k: u16, z: i64) -> bool
 }
 
 // How many nodes are on the near side of a pair, of so many below its child.
-fn side(count: u16, down: bool, size: u16) -> u16
-    ensures { λ r. ⌜ r ≡ pass.side count down size ⌝ }
+fn near_size(count: u16, down: bool, size: u16) -> u16
+    ensures { λ r. ⌜ r ≡ pass.nearSize count down size ⌝ }
 {
     if down {
         return rest(count, size);

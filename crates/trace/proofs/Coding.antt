@@ -13,10 +13,11 @@ use Rattle.twos.specs.declared.Encoded.{Encoded}
 use Rattle.twos.specs.declared.Encoded.the-variants as encoding
 use Rattle.twos.specs.declared.Decoded.the-variants as decoding
 use Rattle.twos.proofs.Signs.{signed-twos}
+use Rattle.messages.specs.Reading.{messageOf}
 use Rattle.messages.specs.declared.Message.the-variants.{Probe, Response, Update, Release}
 use Rattle.messages.proofs.Parts.{valueIn}
 use Rattle.messages.proofs.Widths.{value-lt}
-use Rattle.trace.specs.Traces.{number, low, value, coded, messageBy, decoded}
+use Rattle.trace.specs.Traces.{number, low, value, coded, decoded}
 use Rattle.trace.specs.Promises.{Coded-back}
 
 -- a value's 40 bits, by what encoding answers
@@ -52,20 +53,20 @@ value-decoded n = go (ltb n 1099511627776)
 -- the message of a number, by its kind
 module _ (n a b : ℕ) (from : a ≡ n / 281474976710656 % 256) (to : b ≡ n / 1099511627776 % 256) where
   pub is-probe : n / 72057594037927936 ≡ 0 → Probe a b ≡ decoded n
-  unfolding decoded messageBy
+  unfolding decoded messageOf
   is-probe e = rw (e, from, to)
 
   pub is-release : (n / 72057594037927936 ≡ 0 → ⊥) → (n / 72057594037927936 ≡ 1 → ⊥) → (n / 72057594037927936 ≡ 2 → ⊥) → Release a b ≡ decoded n
-  unfolding decoded messageBy
+  unfolding decoded messageOf
   is-release f g h = rw (ne-eqb (n / 72057594037927936) 0 f, ne-eqb (n / 72057594037927936) 1 g, ne-eqb (n / 72057594037927936) 2 h, from, to)
 
   module _ (z : ℤ) (values : z ≡ value (n % 1099511627776)) where
     pub is-response : n / 72057594037927936 ≡ 1 → Response a b z ≡ decoded n
-    unfolding decoded messageBy
+    unfolding decoded messageOf
     is-response e = rw (e, from, to, values)
 
     pub is-update : n / 72057594037927936 ≡ 2 → Update a b z ≡ decoded n
-    unfolding decoded messageBy
+    unfolding decoded messageOf
     is-update e = rw (e, from, to, values)
 
 -- the parts of a number
@@ -84,7 +85,7 @@ unfolding value low
 value-back z h = rw (h, lt-ltb (twos 40 z) 1099511627776 (value-lt z h)) (signed-twos 40 (omega arith) z (ltb-true (mag z) (2 ^ 39) h))
 
 pub coded-back : Coded-back
-unfolding decoded coded messageBy
+unfolding decoded coded messageOf
 coded-back (Probe a b) (ha, hb, h) = let p = parts 0 a b 0 ha hb (omega arith) in rw (p .kinds, p .senders, p .receivers)
 coded-back (Response a b z) (ha, hb, h) = let p = parts 1 a b (low z) ha hb (low-lt z) in rw (p .kinds, p .senders, p .receivers, p .values, value-back z h)
 coded-back (Update a b z) (ha, hb, h) = let p = parts 2 a b (low z) ha hb (low-lt z) in rw (p .kinds, p .senders, p .receivers, p .values, value-back z h)

@@ -2,11 +2,10 @@
 use mathlib.Core.Path.{sym, ap, _∙_}
 use denote.Ref.{now}
 use Rattle.fields.specs.Outcomes.{OneResult, OneOutcome}
-use Rattle.trace.specs.Traces.{Trace, Writing}
+use Rattle.trace.specs.Traces.{Trace}
 use Rattle.trace.proofs.push.Reads as push
 use Rattle.trace.proofs.decoded.Reads as decoded
-use Rattle.trace.proofs.bits.Reads as bits
-use Rattle.trace.proofs.record.Reads as «record»
+use Rattle.trace.proofs.log.Reads as log
 
 pub push-once : OneOutcome push.Post (λ κ s. now (s .0))
 push-once κ a x y s t p q = let e = p ∙ sym q in (ap (λ (o : Trace). o .len) e, ap (λ (o : Trace). o .numbers) e)
@@ -14,8 +13,5 @@ push-once κ a x y s t p q = let e = p ∙ sym q in (ap (λ (o : Trace). o .len)
 pub decoded-once : OneResult decoded.Post
 decoded-once κ a x y s t p q = p ∙ sym q
 
-pub bits-once : OneResult bits.Post
-bits-once κ a x y s t p q = p ∙ sym q
-
-pub record-once : OneOutcome «record».Post (λ κ s. now (s .0))
-record-once κ a x y s t p q = let e = p ∙ sym q in (ap (λ (o : Writing). o .place) e, ap (λ (o : Writing). o .log) e)
+pub log-once : OneOutcome log.Post (λ κ s. now (s .0))
+log-once κ a x y s t p q = (p .0 ∙ sym (q .0), p .1 ∙ sym (q .1))

@@ -5,7 +5,7 @@ use Prim.Native.Nat.{ℕ, zero, suc, _+_, _<_, _≤_}
 use native.Mathlib.Nat.{add-zero}
 use native.Mathlib.Numerals.{add-one}
 use native.Mathlib.Omega.{arith}
-use lib.ListN.{getD, set, length, length-set, length-append}
+use lib.ListN.{getD, set, length, length-set}
 use lib.Seq.{getD-set-same, getD-set-other, append-snoc}
 use borrow.Author.Tests.{lt-ltb}
 use Rattle.messages.specs.Records.{bitsOf, Sized, AllSized}
@@ -39,11 +39,6 @@ module _ (ns : List ℕ) (i : ℕ) (m : Message) (next : m ≡ decoded (getD ns 
   noted-next w {s} {s′} {at} {at′} {x} e f g h =
       let n : writing s′ at′ ≡ noted m (writing s at) = rw (h, f, g) in
       n ∙ ap (noted m) e ∙ rw (add-one, next) (sym (noted-more (messagesIn ns i) (decoded (getD ns i 0)) w))
-
-pub messages-long : (ns : List ℕ) (k : ℕ) → length (messagesIn ns k) ≡ k
-unfolding messagesIn
-messages-long ns zero = refl
-messages-long ns (suc k) = length-append (messagesIn ns k) (decoded (getD ns k 0) ∷ []) ∙ rw (messages-long ns k) (add-one k)
 
 -- ---- a trace holds what was pushed
 

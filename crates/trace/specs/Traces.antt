@@ -2,15 +2,18 @@
 use mathlib.Core.Bool.{cond}
 use mathlib.Core.List.{List, [], _∷_, _++_}
 use Prim.Native.Nat.{ℕ, zero, suc, _+_, _*_, _/_, _%_, min}
-use lib.Dec.{eqb, ltb}
+use lib.Dec.{ltb}
 use lib.IntN.{ℤ, pos}
 use lib.ListN.{getD, set, length}
 use Rattle.twos.specs.Twos.{twos, signed, within}
-use Rattle.messages.specs.Writing.{writtenOf, logAfter}
+use Rattle.messages.specs.Reading.{messageOf}
+use Rattle.messages.specs.Writing.{writtenOf, logAfter, logged, bitsOfAll, roomForAll}
 use Rattle.messages.specs.declared.Message.{Message}
 use Rattle.messages.specs.declared.Message.the-variants.{Probe, Response, Update, Release}
 use Rattle.messages.specs.declared.Written.{Written}
 use Rattle.messages.specs.declared.Written.the-variants.{Next, Full, Misfit}
+use Rattle.trace.specs.declared.Logged.{Logged}
+use Rattle.trace.specs.declared.Logged.the-variants as logging
 
 unfoldable pub number : ℕ → ℕ → ℕ → ℕ → ℕ
 number kind a b low = kind * 72057594037927936 + a * 281474976710656 + b * 1099511627776 + low
@@ -29,11 +32,8 @@ coded (Response a b z) = number 1 a b (low z)
 coded (Update a b z) = number 2 a b (low z)
 coded (Release a b) = number 3 a b 0
 
-unfoldable pub messageBy : ℕ → ℕ → ℕ → ℤ → Message
-messageBy kind a b z = cond (eqb kind 0) (Probe a b) (cond (eqb kind 1) (Response a b z) (cond (eqb kind 2) (Update a b z) (Release a b)))
-
 unfoldable pub decoded : ℕ → Message
-decoded n = messageBy (n / 72057594037927936) (n / 281474976710656 % 256) (n / 1099511627776 % 256) (value (n % 1099511627776))
+decoded n = messageOf (n / 72057594037927936) (n / 281474976710656 % 256) (n / 1099511627776 % 256) (value (n % 1099511627776))
 
 -- room for 510 numbers, and how many of them count
 pub record Trace : Type 0 where
@@ -59,6 +59,16 @@ messagesIn ns (suc k) = messagesIn ns k ++ (decoded (getD ns k 0) ∷ [])
 -- the messages of a trace
 abbrev pub messagesOf : List ℕ → ℕ → List Message
 messagesOf ns len = messagesIn ns (min len 510)
+
+-- what logging them answers: the place after the last record, where there is room for all
+unfoldable pub loggedOf : ℕ → ℕ → List Message → Logged
+loggedOf n place ms = cond (roomForAll n place ms) (logging.Next (place + bitsOfAll ms)) logging.Full
+
+-- the log with all records; as it was where there is no room for all
+unfoldable pub logAfterAll : List ℕ → ℕ → List Message → List ℕ
+logAfterAll log place ms = cond (roomForAll (length log) place ms) (logged log place ms) log
+
+-- ---- the same, message by message
 
 -- a log, and the place of the next record in it
 pub record Writing : Type 0 where

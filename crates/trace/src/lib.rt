@@ -6,11 +6,20 @@ mod code; // a message as a number
 
 ghost use mathlib.Core.Path.{_≡_};
 ghost use Prim.Native.Nat.{_≤_, min};
+ghost use lib.ListN.{length};
 ghost use Rattle.messages.specs.Records as records;
 ghost use Rattle.messages.specs.Writing.{bitsOfAll};
 ghost use Rattle.trace.specs.Traces as spec;
 use messages::Message;
 use messages::Written;
+
+// What logging a trace answers.
+pub enum Logged {
+    // the place after its last record
+    Next(usize),
+    // the place is past the usable log, or there are too few bits for all records
+    Full,
+}
 
 // One message more, or none where the trace is full.
 pub fn push(trace: &mut [u64; 510], len: usize, message: Message) -> usize
@@ -44,8 +53,22 @@ pub fn decoded(number: u64) -> Message
     Message::Release(a, b)
 }
 
+// Logs the first len messages from place on, all of them or none.
+pub fn log(log: &mut [u8], place: usize, trace: &[u64; 510], len: usize) -> Logged
+    ensures { λ r. ⌜ (r ≡ spec.loggedOf (length (now (log .entry))) place (spec.messagesOf (now (trace .entry)) len)) × (now (log .exit) ≡ spec.logAfterAll (now (log .entry)) place (spec.messagesOf (now (trace .entry)) len)) ⌝ }
+{
+    let end = fields::usable_bits(log.len());
+    if end < place {
+        return Logged::Full;
+    }
+    if end - place < bits(trace, len) {
+        return Logged::Full;
+    }
+    Logged::Next(record(log, place, trace, len))
+}
+
 // How many bits the records of the first len messages have.
-pub fn bits(trace: &[u64; 510], len: usize) -> usize
+fn bits(trace: &[u64; 510], len: usize) -> usize
     ensures { λ r. ⌜ r ≡ bitsOfAll (spec.messagesOf (now (trace .entry)) len) ⌝ }
 {
     let end = most(len);
@@ -60,7 +83,7 @@ pub fn bits(trace: &[u64; 510], len: usize) -> usize
 
 // Logs the first len messages from place on, and answers the place after them. A message that is
 // refused is left out.
-pub fn record(log: &mut [u8], place: usize, trace: &[u64; 510], len: usize) -> usize
+fn record(log: &mut [u8], place: usize, trace: &[u64; 510], len: usize) -> usize
     ensures { λ r. ⌜ spec.writing (now (log .exit)) r ≡ spec.notedAll (spec.messagesOf (now (trace .entry)) len) (spec.writing (now (log .entry)) place) ⌝ }
 {
     let end = most(len);

@@ -10,27 +10,18 @@ use native.Mathlib.Omega.{arith}
 use lib.Dec.{eqb, ltb, leb}
 use lib.ListN.{getD, set}
 use borrow.Author.Tests.{eqb-true, lt-ltb, le-ltb, le-leb, lt-leb, eq-eqb, ne-eqb, not-true}
-use Rattle.tree.specs.Parents.{parent, Grown}
+use Rattle.tree.specs.Parents.{parent, Grown, child}
 use Rattle.tree.specs.Sides.{below, adjacent, side}
 use Rattle.tree.specs.Operation.{pick, aggregate, plus}
 use Rattle.tree.specs.Sizes.{sizeBelow, ones, listed}
 use Rattle.tree.proofs.Cases.{either, order, lt-or-le}
 use Rattle.tree.proofs.Folds.{related, same-nodes, same-where, zeros, pull}
 use Rattle.tree.proofs.Below.{below-self, below-root, below-step, below-lt, inherited}
+use Rattle.tree.proofs.Children.{child-is, child-low}
 use Rattle.tree.proofs.Toward.{adjacent-ne}
 use Rattle.tree.proofs.SideLaw.{fan}
 use Rattle.tree.proofs.Sizes.{all-ones}
 use Rattle.tree.proofs.Listed.{listed-read, listed-set}
-
--- w is a child of i
-abbrev child : List ℕ → ℕ → ℕ → Bool
-child ps i w = ltb i w && eqb (parent ps w) i
-
-child-is : (ps : List ℕ) (i w : ℕ) → i < w → child ps i w ≡ eqb (parent ps w) i
-child-is ps i w l = rw (lt-ltb i w l)
-
-child-not : (ps : List ℕ) (i w : ℕ) → w ≤ i → child ps i w ≡ false
-child-not ps i w l = rw (le-ltb i w l)
 
 larger-neighbour : (ps : List ℕ) (i w : ℕ) → (adjacent ps w i && ltb i w) ≡ child ps i w
 larger-neighbour ps i w = lt-or-le i w
@@ -86,13 +77,13 @@ module _ (ps : List ℕ) (n : ℕ) (grown : Grown ps n) where
   pub held-all : (c d : ℕ) → c ≤ suc d → d < n → held ps n c d ≡ sizeBelow ps n d
   held-all c d l h = rw (lt-ltb d n h) (ap (λ k. 1 + k) (same-nodes plus (λ w. leb c w && child ps d w) (child ps d) (sizeBelow ps n) n (λ w k. lt-or-le d w
       (λ m. rw (le-leb c w (omega arith)))
-      (λ m. rw (child-not ps d w m) (and-false (leb c w))))) ∙ sym (below-law d h))
+      (λ m. rw (child-low ps d w m) (and-false (leb c w))))) ∙ sym (below-law d h))
 
   -- and at last so do all entries: those of no node hold nothing.
   pub held-last : (i : ℕ) → held ps n 1 i ≡ sizeBelow ps n i
   held-last i = lt-or-le i n
       (λ l. held-all 1 i (omega arith) l)
-      (λ l. let a = zeros plus (λ w. pick plus (leb 1 w && child ps i w) (sizeBelow ps n w)) n (λ w k. rw (child-not ps i w (omega arith), and-false (leb 1 w))) in
+      (λ l. let a = zeros plus (λ w. pick plus (leb 1 w && child ps i w) (sizeBelow ps n w)) n (λ w k. rw (child-low ps i w (omega arith), and-false (leb 1 w))) in
       let b = zeros plus (λ j. pick plus (below ps i j) 1) n (λ j k. rw (below-lt ps n grown i j k (omega arith))) in
       rw (le-ltb i n l) (omega (arith, a, b)))
 
@@ -126,7 +117,7 @@ module _ (ps : List ℕ) (n : ℕ) (grown : Grown ps n) where
         no-child : child ps i d ≡ false
         no-child = lt-or-le i d
             (λ l. child-is ps i d l ∙ ne-eqb (parent ps d) i (λ o. ne (sym o)))
-            (λ l. child-not ps i d l)
+            (λ l. child-low ps i d l)
 
     pub turn-parent : held ps n d (parent ps d) ≡ held ps n (suc d) (parent ps d) + held ps n (suc d) d
     turn-parent =

@@ -36,7 +36,7 @@ module _ {A : Type 0} (op : Op A) where
   swap4 : (a b c d : A) → (a ⊕ b) ⊕ (c ⊕ d) ≡ (a ⊕ c) ⊕ (b ⊕ d)
   swap4 a b c d = cc (assoc a b (c ⊕ d), assoc b c d, comm b c, assoc c b d, assoc a c (b ⊕ d))
 
-  split : (f g : ℕ → A) (n : ℕ) → fold op (λ j. f j ⊕ g j) n ≡ fold op f n ⊕ fold op g n
+  pub split : (f g : ℕ → A) (n : ℕ) → fold op (λ j. f j ⊕ g j) n ≡ fold op f n ⊕ fold op g n
   split f g zero = sym idem
   split f g (suc n) = let e = split f g n in cc (swap4 (fold op f n) (fold op g n) (f n) (g n))
 

@@ -4,6 +4,7 @@ pub mod Every
 pub mod InRule
 pub mod Folds
 pub mod Below
+pub mod Children
 pub mod Toward
 pub mod SideLaw
 pub mod Sizes

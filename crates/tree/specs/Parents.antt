@@ -12,6 +12,10 @@ use Rattle.tree.specs.Every.{every}
 abbrev pub parent : List ℕ → ℕ → ℕ
 parent ps i = getD ps i 0
 
+-- w is a child of u
+abbrev pub child : List ℕ → ℕ → ℕ → Bool
+child ps u w = ltb u w && eqb (parent ps w) u
+
 -- each node from 1 to n - 1 has a smaller parent
 abbrev pub Grown : List ℕ → ℕ → Type 0
 Grown ps n = (i : ℕ) → 0 < i → i < n → parent ps i < i

@@ -1,32 +1,20 @@
 -- One pass over the parents, from the last node down, makes the links.
 use mathlib.Core.Path.{_≡_, refl, sym}
 use mathlib.Core.Logic.{_≢_}
-use mathlib.Core.Bool.{true, false, and-false}
+use mathlib.Core.Bool.{true}
 use mathlib.Core.List.{List}
 use Prim.Native.Nat.{ℕ, _+_, _<_, _≤_}
 use native.Mathlib.Nat.{le-refl}
 use native.Mathlib.Decide.{ℕ-discrete}
 use native.Mathlib.Omega.{arith}
-use lib.Dec.{eqb}
 use lib.ListN.{getD, set, length, length-set, replicate, length-replicate, getD-replicate}
 use lib.Seq.{getD-set-same, getD-set-other}
-use borrow.Author.Tests.{lt-ltb, le-ltb, eq-eqb, ne-eqb}
-use Rattle.tree.specs.Parents.{parent, Grown}
+use borrow.Author.Tests.{eq-eqb}
+use Rattle.tree.specs.Parents.{parent, Grown, child}
 use Rattle.tree.proofs.Cases.{either}
-use Rattle.walk.specs.Links.{Found, child, Linked}
+use Rattle.tree.proofs.Children.{child-is, child-low, child-other}
+use Rattle.walk.specs.Links.{Found, Linked}
 use Rattle.walk.proofs.Finding.{found-none, found-here, found-from, found-later}
-
-pub child-is : (ps : List ℕ) (u w : ℕ) → u < w → child ps u w ≡ eqb (parent ps w) u
-unfolding child
-child-is ps u w h = rw (lt-ltb u w h)
-
-child-low : (ps : List ℕ) (u w : ℕ) → w ≤ u → child ps u w ≡ false
-unfolding child
-child-low ps u w h = rw (le-ltb u w h)
-
-child-not : (ps : List ℕ) (u w : ℕ) → u ≢ parent ps w → child ps u w ≡ false
-unfolding child
-child-not ps u w d = rw (ne-eqb (parent ps w) u (λ e. d (sym e)), and-false)
 
 -- the nodes from i on are linked
 pub record Linking (n : ℕ) (ps first next : List ℕ) (i : ℕ) : Type 0 where
@@ -77,7 +65,7 @@ module _ {n : ℕ} {ps : List ℕ} where
         others : (u : ℕ) → u < 256 → u ≢ p → Found n (child ps u) w (getD (set first p w) u 0)
         others u h d =
             rw (getD-set-other first p u w 0 d)
-            (found-from {m = i} (omega arith) (λ j a b. rw (let same : j ≡ w = omega arith in same) (child-not ps u w (λ q. d (omega arith)))) (λ j a. refl) (l .firsts u h))
+            (found-from {m = i} (omega arith) (λ j a b. rw (let same : j ≡ w = omega arith in same) (child-other ps u w (λ q. d (omega arith)))) (λ j a. refl) (l .firsts u h))
 
   pub linked-all : {first next : List ℕ} {i : ℕ} → n ≤ 256 → Grown ps n → i ≤ 1 → Linking n ps first next i → Linked n ps first next
   linked-all small grown le l =

@@ -9,14 +9,14 @@ use native.Mathlib.Omega.{arith}
 use lib.Dec.{eqb}
 use lib.ListN.{getD}
 use borrow.Author.Tests.{eqb-true, lt-ltb, le-ltb, eq-eqb, ne-eqb}
-use Rattle.tree.specs.Parents.{parent}
+use Rattle.tree.specs.Parents.{parent, child}
 use Rattle.tree.specs.Sides.{adjacent}
 use Rattle.tree.specs.Turns.{turn}
 use Rattle.tree.proofs.Cases.{order}
 use Rattle.tree.proofs.Toward.{adjacent-ne}
-use Rattle.walk.specs.Links.{Found, child, Linked, neighbourAt}
+use Rattle.tree.proofs.Children.{child-is}
+use Rattle.walk.specs.Links.{Found, Linked, neighbourAt}
 use Rattle.walk.proofs.Finding.{found-here, found-from}
-use Rattle.walk.proofs.Linking.{child-is}
 
 -- the candidate j is below u, is u, or is above it
 
@@ -27,7 +27,6 @@ pub near-self : (ps : List ℕ) (u j : ℕ) → j ≡ u → adjacent ps j u ≡ 
 near-self ps u j e = rw (le-ltb j u (omega arith), le-ltb u j (omega arith))
 
 pub near-above : (ps : List ℕ) (u j : ℕ) → u < j → adjacent ps j u ≡ child ps u j
-unfolding child
 near-above ps u j h = rw (le-ltb j u (omega arith))
 
 module _ {n : ℕ} {ps first next : List ℕ} {u : ℕ} (inside : u < n) (links : Linked n ps first next) where

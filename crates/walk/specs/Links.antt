@@ -1,11 +1,10 @@
 -- A node's neighbours by links: the first child of each node, and the next child of its parent.
 use mathlib.Core.Path.{_≡_}
-use mathlib.Core.Bool.{Bool, true, false, _&&_}
+use mathlib.Core.Bool.{Bool, true, false}
 use mathlib.Core.List.{List}
 use Prim.Native.Nat.{ℕ, _+_, _<_, _≤_}
-use lib.Dec.{eqb, ltb}
 use lib.ListN.{getD}
-use Rattle.tree.specs.Parents.{parent, Grown}
+use Rattle.tree.specs.Parents.{parent, Grown, child}
 use Rattle.tree.specs.Sides.{adjacent}
 use Rattle.tree.specs.Turns.{turn}
 
@@ -15,10 +14,6 @@ pub record Found (n : ℕ) (test : ℕ → Bool) (k r : ℕ) : Type 0 where
   pub upto : r ≤ n
   pub skipped : (j : ℕ) → k ≤ j → j < r → test j ≡ false
   pub found : r < n → test r ≡ true
-
--- w is a child of u
-unfoldable pub child : List ℕ → ℕ → ℕ → Bool
-child ps u w = ltb u w && eqb (parent ps w) u
 
 -- first[u] is the least child of u, and next[w] the least child above w of w's parent; n for none
 pub record Linked (n : ℕ) (ps first next : List ℕ) : Type 0 where

@@ -1,16 +1,15 @@
 -- `serve::combined` meets its contract: unless it is refused, the walk is made, and its messages are logged and applied.
-use mathlib.Core.Path.{_≡_, sym, ap, ap₂, _∙_}
+use mathlib.Core.Path.{_≡_, sym, ap, _∙_}
+use native.Mathlib.Omega.{arith}
 use lib.ListN.{length}
 use borrow.Author.Needs.{needs}
 use Rattle.tree.specs.Operation.{sum}
 use Rattle.messages.proofs.Parts.{handed-on}
 use Rattle.requests.specs.declared.Request.{Request}
 use Rattle.requests.specs.declared.Request.the-variants.{Combine}
-use Rattle.session.specs.declared.Session.{Session}
 use Rattle.session.proofs.Typing.{typed}
 use Rattle.mechanism.specs.Requests.{says}
-use Rattle.mechanism.specs.Refusals.{allFit}
-use Rattle.aggregate.specs.Serving.{outcomeOf, loggedOf}
+use Rattle.trace.specs.Traces.{loggedOf, logAfterAll}
 use Rattle.aggregate.proofs.Judging.{Ready, ready}
 use Rattle.aggregate.proofs.Ending.{Spoken, spoken, ends-early, ends-full, ends-well, combined}
 use Rattle.aggregate.proofs.serve.combined.Statement.{statement}
@@ -25,8 +24,8 @@ module _ (e : tie.Else1) where
   abbrev start : tie.Start
   start = e .before .before .before
 
-  may : Ready (start .args .session) (start .args .x) (length (start .args .log .now)) (start .args .place)
-  may = ready (start .args .session) (start .pre) (start .args .x) (length (start .args .log .now)) (start .args .place) (sym (e .before .judged .ensures) ∙ e .if1 .left)
+  may : Ready (start .args .session) (start .args .x)
+  may = ready (start .args .session) (start .pre) (start .args .x) (sym (e .before .early-refusal .ensures) ∙ e .if1 .left)
 
 -- what was walked
 module _ (w : tie.After-from) where
@@ -37,26 +36,28 @@ module _ (w : tie.After-from) where
   said = spoken (began .args .session) (asked began) _ _ (typed (began .args .session) _ (began .good .0)) tt (may (w .before .before)) (w .from .ensures .1)
 
 -- what was answered and logged
-module _ (l : tie.After-logged) where
+module _ (l : tie.After-log) where
   abbrev there : tie.After-from
-  there = l .before .before .before .before
+  there = l .before .before .before
 
   abbrev first : tie.Start
   first = began there
 
-  ended : Ready (first .args .session) (first .args .x) (length (first .args .log .now)) (first .args .place)
+  ended : Ready (first .args .session) (first .args .x)
   ended = may (there .before .before)
 
-  told : l .logged .result ≡ outcomeOf (length (first .args .log .now)) (first .args .place) (says sum (first .args .session) (asked first) .sum) (says sum (first .args .session) (asked first) .log)
-  told =
-      l .logged .ensures .0
-      ∙ ap₂ (outcomeOf (length (first .args .log .now)) (first .args .place)) (handed-on (there .from .result .sum) (l .before .struct-told .given .0 .1) ∙ there .from .ensures .0) (said there .holds)
+  told : l .log .result ≡ loggedOf (length (first .args .log .now)) (first .args .place) (says sum (first .args .session) (asked first) .log)
+  told = l .log .ensures .0 ∙ ap (loggedOf (length (first .args .log .now)) (first .args .place)) (said there .holds)
 
-  logs : l .logged .last .0 ≡ loggedOf (first .args .log .now) (first .args .place) (says sum (first .args .session) (asked first) .log)
-  logs = l .logged .ensures .1 ∙ ap (loggedOf (first .args .log .now) (first .args .place)) (said there .holds)
+  logs : l .log .last .0 ≡ logAfterAll (first .args .log .now) (first .args .place) (says sum (first .args .session) (asked first) .log)
+  logs = l .log .ensures .1 ∙ ap (logAfterAll (first .args .log .now) (first .args .place)) (said there .holds)
 
-judged-requires : tie.Need-judged-requires
-judged-requires c κs = search needs
+-- there was room
+abbrev logged : tie.After-known-told → tie.After-log
+logged k = k .before .before .before .before .before
+
+early-refusal-requires : tie.Need-early-refusal-requires
+early-refusal-requires c κs = search needs
 
 refused-requires : tie.Need-refused-requires
 refused-requires c κs = search needs
@@ -65,16 +66,20 @@ returns : tie.Need-returns
 returns c =
     let j = c .before .before in
     let s = j .before .before in
-    let e = ends-early (s .args .session) (asked s) (s .args .log .now) (s .args .place) (s .pre) _ (j .judged .ensures) (c .before .if1 .taken) in
+    let e = ends-early (s .args .session) (asked s) (s .args .log .now) (s .args .place) (s .pre) _ (j .early-refusal .ensures) (c .before .if1 .taken) in
     (c .refused .ensures ∙ e .0, e .1)
 
 from-requires : tie.Need-from-requires
 from-requires c κs = let m = may (c .before) in (m .holds, m .inside)
 
-logged-requires : tie.Need-logged-requires
-logged-requires c κs =
-    let w = c .before .before .before in
-    ((said w .few, may (w .before .before) .placed), ap allFit (said w .holds) ∙ said w .fit)
+log-requires : tie.Need-log-requires
+log-requires c κs = search needs
+
+enum-known-next : tie.Need-enum-known-next
+enum-known-next c = search needs
+
+enum-told : tie.Need-enum-told
+enum-told c = search needs
 
 refused-requires-2 : tie.Need-refused-requires-2
 refused-requires-2 c κs = search needs
@@ -86,17 +91,20 @@ returns-2 : tie.Need-returns-2
 returns-2 c =
     let l = c .before .before .before .before .before in
     let s = first l in
-    let e = ends-full (s .args .session) (asked s) (s .args .log .now) (s .args .place) (ended l) (said (there l) .fit) (l .logged .result) (told l) (c .before .if2 .taken) in
-    (c .refused2 .ensures ∙ e .0, logs l ∙ e .1)
+    let e = ends-full (s .args .session) (asked s) (s .args .log .now) (s .args .place) (ended l) (said (there l) .fit) _ (told l) _ (logs l) (c .before .enum-told .given .1) in
+    (c .refused2 .ensures ∙ e .0, e .1)
+
+cast-t15 : tie.Need-cast-t15
+cast-t15 c = let few = said (there (logged (c .before))) .few in search needs
 
 applied-requires : tie.Need-applied-requires
 applied-requires c κs =
-    let l = c .before .before .before .before .before in
+    let l = logged (c .before .before .before) in
     (said (there l) .few, (ended l .holds, ended l .free))
 
 raised-requires : tie.Need-raised-requires
 raised-requires c κs =
-    let m = ended (c .before .before .before .before .before .before) in
+    let m = ended (logged (c .before .before .before .before)) in
     rw (c .applied .ensures) (m .holds .tree-in-rule, m .inside)
 
 same-length-2 : tie.Need-same-length-2
@@ -104,27 +112,30 @@ same-length-2 c = search needs
 
 returns-3 : tie.Need-returns-3
 returns-3 c =
-    let l = c .before .before .before .before .before .before .before in
+    let k = c .before .before .before .before .before in
+    let l = logged k in
     let s = first l in
-    let e = ends-well (s .args .session) (asked s) (s .args .log .now) (s .args .place) (ended l) (said (there l) .fit) (l .logged .result) (told l) (c .before .before .before .if2 .left) in (
-      ap (λ (o : Session). record { outcome = l .logged .result; session = o })
-          (c .raised .ensures ∙ combined (s .args .session) (c .before .applied .result) (s .args .x) _ (said (there l) .holds) (c .before .applied .ensures))
-          ∙ e .0,
-      logs l ∙ e .1,
-    )
+    ends-well (s .args .session) (asked s) (s .args .log .now) (s .args .place) (ended l) (said (there l) .fit) _ (told l) _ (logs l) _ _ _ _
+    (handed-on (there l .from .result .sum) (c .before .before .before .struct-told .given .0 .1) ∙ there l .from .ensures .0)
+    (omega (arith, said (there l) .long))
+    (k .before .next .given .1)
+    (c .raised .ensures ∙ combined (s .args .session) (c .before .applied .result) (s .args .x) _ (said (there l) .holds) (c .before .applied .ensures))
 
 pub combined-spec : {M : Type 1} → statement M
 combined-spec =
     tie.close
     (tie.spec
-    judged-requires
+    early-refusal-requires
     refused-requires
     returns
     from-requires
-    logged-requires
+    log-requires
+    enum-known-next
+    enum-told
     refused-requires-2
     same-length
     returns-2
+    cast-t15
     applied-requires
     raised-requires
     same-length-2

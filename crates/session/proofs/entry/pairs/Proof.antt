@@ -9,14 +9,14 @@ use borrow.Author.Needs.{needs}
 use borrow.Author.Tests.{not-true, not-false}
 use Rattle.tree.specs.Every.{every}
 use Rattle.tree.proofs.Every.{every-none, every-more, every-fails}
-use Rattle.session.specs.Passes.{pairs, entry, side}
+use Rattle.session.specs.Passes.{pairs, entry, nearSize}
 use Rattle.session.proofs.Limits.{entry-read}
 use Rattle.session.proofs.entry.pairs.Statement.{statement}
 use Rattle.session.proofs.entry.pairs.Tie as tie
 
 abbrev Inv-loop : tie.InvT-loop
 Inv-loop count twice down sizes lease cache messages i₀ i =
-    (i ≤ 256) × (every (λ j. entry count j twice (side count down (getD sizes j 0)) (getD lease j 0) (getD cache j (pos 0)) (getD messages j 0)) i ≡ true)
+    (i ≤ 256) × (every (λ j. entry count j twice (nearSize count down (getD sizes j 0)) (getD lease j 0) (getD cache j (pos 0)) (getD messages j 0)) i ≡ true)
 
 abbrev μ-loop : tie.MeasureT-loop
 μ-loop count twice down sizes lease cache messages i₀ i = 256 - i
@@ -29,20 +29,20 @@ module _ (c : tie.After-entry Inv-loop μ-loop) where
   abbrev i : ℕ
   i = c .before .before .before .before .before .before .before .loop .i
 
-  told : c .entry .result ≡ entry (start .args .count) i (start .args .twice) (side (start .args .count) (start .args .down) (getD (start .args .sizes .now) i 0)) (getD (start .args .lease .now) i 0) (getD (start .args .cache .now) i (pos 0)) (getD (start .args .messages .now) i 0)
-  told = rw (← c .before .before .before .before .side .ensures) (c .entry .ensures ∙ entry-read _ _ _ _ _ _ _ (c .before .before .entry-arg2 .given))
+  told : c .entry .result ≡ entry (start .args .count) i (start .args .twice) (nearSize (start .args .count) (start .args .down) (getD (start .args .sizes .now) i 0)) (getD (start .args .lease .now) i 0) (getD (start .args .cache .now) i (pos 0)) (getD (start .args .messages .now) i 0)
+  told = rw (← c .before .before .before .before .near-size .ensures) (c .entry .ensures ∙ entry-read _ _ _ _ _ _ _ (c .before .before .entry-arg2 .given))
 
 loop-holds : tie.Need-loop-holds Inv-loop μ-loop
 loop-holds c = (omega arith, every-none _)
 
-mul-side : tie.Need-mul-side Inv-loop μ-loop
-mul-side c = omega arith
+mul-near-size : tie.Need-mul-near-size Inv-loop μ-loop
+mul-near-size c = omega arith
 
-element-copy-out-side : tie.Need-element-copy-out-side Inv-loop μ-loop
-element-copy-out-side c = search needs
+element-copy-out-near-size : tie.Need-element-copy-out-near-size Inv-loop μ-loop
+element-copy-out-near-size c = search needs
 
-side-requires : tie.Need-side-requires Inv-loop μ-loop
-side-requires c κs = search needs
+near-size-requires : tie.Need-near-size-requires Inv-loop μ-loop
+near-size-requires c κs = search needs
 
 element-copy-out-entry : tie.Need-element-copy-out-entry Inv-loop μ-loop
 element-copy-out-entry c = search needs
@@ -86,9 +86,9 @@ pairs-spec =
     Inv-loop
     μ-loop
     loop-holds
-    mul-side
-    element-copy-out-side
-    side-requires
+    mul-near-size
+    element-copy-out-near-size
+    near-size-requires
     element-copy-out-entry
     mul-entry
     element-copy-out-entry-2

@@ -1,12 +1,12 @@
--- `entry::within` meets its contract: the first limit that is broken decides.
+-- `entry::in_limits` meets its contract: the first limit that is broken decides.
 use mathlib.Core.Path.{sym, ap, _∙_}
 use native.Mathlib.Omega.{arith}
 use mir.Facts.{toZ-ofZ}
 use borrow.Author.Needs.{needs}
 use Rattle.tree.specs.Ranges.{inRange}
 use Rattle.session.proofs.Limits.{lease-above, messages-above, range-left}
-use Rattle.session.proofs.entry.within.Statement.{statement}
-use Rattle.session.proofs.entry.within.Tie as tie
+use Rattle.session.proofs.entry.in_limits.Statement.{statement}
+use Rattle.session.proofs.entry.in_limits.Tie as tie
 
 returns : tie.Need-returns
 returns c = let a = c .before .args in sym (lease-above (a .most) (a .size) (a .twice) (a .lease) (a .cache) (a .messages) (omega arith))
@@ -23,5 +23,5 @@ returns-3 c =
     let a = s .args in
     c .in-range .ensures ∙ ap (inRange (a .size)) (toZ-ofZ (s .fits .cache)) ∙ sym (range-left (a .most) (a .size) (a .twice) (a .lease) (a .cache) (a .messages) (omega arith) (omega arith))
 
-pub within-spec : {M : Type 1} → statement M
-within-spec = tie.close (tie.spec returns returns-2 in-range-requires returns-3)
+pub in-limits-spec : {M : Type 1} → statement M
+in-limits-spec = tie.close (tie.spec returns returns-2 in-range-requires returns-3)
