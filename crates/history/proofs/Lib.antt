@@ -1,0 +1,23 @@
+-- The laws of histories: requests one after the other, what comes of a call, of a history, and of the rounds on two nodes.
+pub mod Succession
+pub mod Steps
+pub mod Throughout
+pub mod Owning
+pub mod Answering
+pub mod Pairs
+pub mod Contracts
+pub mod Latest
+pub mod Lists
+pub mod Done
+pub mod Calls
+pub mod Histories
+pub mod Beginning
+pub mod Answers
+pub mod Bounds
+pub mod Together
+pub mod TwoNodes
+pub mod Orderly
+pub mod Finishing
+pub mod Bits
+pub mod Rounds
+pub mod Examples
