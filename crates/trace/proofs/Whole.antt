@@ -1,8 +1,10 @@
 -- A trace is logged as a whole: all of its messages fit their records, so that the room decides between all and none.
-use mathlib.Core.Path.{_≡_, refl, ap, _∙_}
+use mathlib.Core.Path.{_≡_, refl, sym, ap, _∙_}
 use mathlib.Core.Bool.{Bool, true, false, cond}
 use mathlib.Core.List.{List, [], _∷_}
 use Prim.Native.Nat.{ℕ, zero, suc, _+_, _/_, _%_, _^_, _≤_, _<_}
+use native.Mathlib.Nat.{suc-ne-zero}
+use native.Mathlib.Decide.{decLe}
 use native.Mathlib.Omega.{arith}
 use lib.Dec.{eqb, ltb}
 use lib.IntN.{ℤ, pos}
@@ -20,7 +22,9 @@ use Rattle.messages.specs.declared.Message.the-variants.{Probe, Response, Updat
 use Rattle.messages.proofs.Answers.{answer-next}
 use Rattle.messages.proofs.Logs.{log-length-kept}
 use Rattle.messages.proofs.Stretches.{sized-append}
-use Rattle.trace.specs.Traces.{value, decoded, messagesIn, loggedOf, logAfterAll, Writing, writing, notedAll}
+use Rattle.trace.specs.Traces.{value, decoded, messagesIn, loggedOf, logAfterAll, toldLogged, Writing, writing, notedAll}
+use Rattle.trace.specs.Promises.{Logged-exactly, Full-exactly, Refused-log-kept}
+use Rattle.trace.specs.declared.Logged.{Logged}
 use Rattle.trace.specs.declared.Logged.the-variants.{Next, Full}
 
 -- ---- every message of a trace fits its record
@@ -64,15 +68,54 @@ noted-all (m ∷ ms) log place h (one, all) =
     let e : place + (bitsOf m + bitsOfAll ms) ≡ place + bitsOf m + bitsOfAll ms = omega arith in
     rw (w, e) (noted-all ms (logAfter log place m) (place + bitsOf m) (rw (log-length-kept log place (m ∷ [])) (rw e at h)) all)
 
+module _ (n place : ℕ) (ms : List Message) where
+  told-next : place + bitsOfAll ms ≤ usableBits n → loggedOf n place ms ≡ Next (place + bitsOfAll ms)
+  unfolding loggedOf
+  told-next h = rw (le-leb (place + bitsOfAll ms) (usableBits n) h)
+
+  told-full : usableBits n < place + bitsOfAll ms → loggedOf n place ms ≡ Full
+  unfolding loggedOf
+  told-full h = rw (lt-leb (place + bitsOfAll ms) (usableBits n) h)
+
+  -- there is no other case
+  by-case : (P : Logged → Type 0) → (place + bitsOfAll ms ≤ usableBits n → P (Next (place + bitsOfAll ms))) → (usableBits n < place + bitsOfAll ms → P Full) → P (loggedOf n place ms)
+  by-case P next full = go (decLe (place + bitsOfAll ms) (usableBits n))
+    where
+      go : Dec (place + bitsOfAll ms ≤ usableBits n) → P (loggedOf n place ms)
+      go (yes h) = rw (told-next h) (next h)
+      go (no h) = let l : usableBits n < place + bitsOfAll ms = omega arith in rw (told-full l) (full l)
+
+-- the number that is told
+abbrev code : ℕ × ℕ → ℕ
+code t = t .0
+
+pub logged-exactly : Logged-exactly
+logged-exactly n place next ms = (
+  by-case n place ms (λ x. toldLogged x ≡ (0, next) → (place + bitsOfAll ms ≤ usableBits n) × (next ≡ place + bitsOfAll ms))
+      (λ h e. (h, sym (ap (λ (t : ℕ × ℕ). t .1) e)))
+      (λ h e. absurd (suc-ne-zero 8 (ap code e))),
+  λ (h, e). ap toldLogged (told-next n place ms h) ∙ ap (λ (p : ℕ). (0, p)) (sym e),
+)
+
+pub full-exactly : Full-exactly
+full-exactly n place ms = (
+  by-case n place ms (λ x. toldLogged x ≡ (9, 0) → usableBits n < place + bitsOfAll ms) (λ h e. absurd (suc-ne-zero 8 (sym (ap code e)))) (λ h e. h),
+  λ h. ap toldLogged (told-full n place ms h),
+)
+
+pub refused-log-kept : Refused-log-kept
+unfolding logAfterAll
+refused-log-kept log place ms h = rw (lt-leb (place + bitsOfAll ms) (usableBits (length log)) h)
+
 module _ (log : List ℕ) (place : ℕ) (ms : List Message) where
   pub none-logged : usableBits (length log) < place + bitsOfAll ms → (Full ≡ loggedOf (length log) place ms) × (log ≡ logAfterAll log place ms)
-  unfolding loggedOf logAfterAll
-  none-logged h = let e = lt-leb (place + bitsOfAll ms) (usableBits (length log)) h in (rw e, rw e)
+  none-logged h = (sym (told-full (length log) place ms h), sym (refused-log-kept log place ms h))
 
   pub all-logged : place + bitsOfAll ms ≤ usableBits (length log) → AllSized ms → (log′ : List ℕ) (next : ℕ) → writing log′ next ≡ notedAll ms (writing log place)
       → (Next next ≡ loggedOf (length log) place ms) × (log′ ≡ logAfterAll log place ms)
-  unfolding loggedOf logAfterAll
+  unfolding logAfterAll
   all-logged h sized log′ next e =
-      let room = le-leb (place + bitsOfAll ms) (usableBits (length log)) h in
-      let is = e ∙ noted-all ms log place h sized in
-      (rw room (ap (λ (w : Writing). Next (w .place)) is), rw room (ap (λ (w : Writing). w .log) is))
+      let is = e ∙ noted-all ms log place h sized in (
+        ap (λ (w : Writing). Next (w .place)) is ∙ sym (told-next (length log) place ms h),
+        rw (le-leb (place + bitsOfAll ms) (usableBits (length log)) h) (ap (λ (w : Writing). w .log) is),
+      )

@@ -1,11 +1,14 @@
 -- What is promised of traces. The theorem that proves a statement bears its name in small letters.
 use mathlib.Core.Path.{_≡_}
 use mathlib.Core.List.{List}
-use Prim.Native.Nat.{ℕ, _≤_}
+use mathlib.Core.Logic.{_↔_}
+use Prim.Native.Nat.{ℕ, _+_, _≤_, _<_}
 use lib.ListN.{length}
+use Rattle.fields.specs.Usable.{usableBits}
 use Rattle.messages.specs.Records.{Sized, AllSized}
+use Rattle.messages.specs.Writing.{bitsOfAll}
 use Rattle.messages.specs.declared.Message.{Message}
-use Rattle.trace.specs.Traces.{coded, decoded, trace, pushedAll, messagesOf}
+use Rattle.trace.specs.Traces.{coded, decoded, trace, pushedAll, messagesOf, loggedOf, logAfterAll, toldLogged}
 
 -- A message that fits its record is read back from its number.
 abbrev pub Coded-back : Type 0
@@ -15,3 +18,14 @@ Coded-back = (m : Message) → Sized m → decoded (coded m) ≡ m
 abbrev pub Trace-holds : Type 0
 Trace-holds = (ms : List Message) (ns numbers : List ℕ) (len : ℕ) → AllSized ms → length ms ≤ 510 → length ns ≡ 510 → trace numbers len ≡ pushedAll ms (trace ns 0)
     → (len ≡ length ms) × (messagesOf numbers len ≡ ms)
+
+-- A trace's messages are logged exactly where there is room for all their records,
+abbrev pub Logged-exactly : Type 0
+Logged-exactly = (n place next : ℕ) (ms : List Message) → (toldLogged (loggedOf n place ms) ≡ (0, next)) ↔ ((place + bitsOfAll ms ≤ usableBits n) × (next ≡ place + bitsOfAll ms))
+
+-- and refused with 9 exactly where there is not; then the log stays as it was.
+abbrev pub Full-exactly : Type 0
+Full-exactly = (n place : ℕ) (ms : List Message) → (toldLogged (loggedOf n place ms) ≡ (9, 0)) ↔ (usableBits n < place + bitsOfAll ms)
+
+abbrev pub Refused-log-kept : Type 0
+Refused-log-kept = (log : List ℕ) (place : ℕ) (ms : List Message) → usableBits (length log) < place + bitsOfAll ms → logAfterAll log place ms ≡ log

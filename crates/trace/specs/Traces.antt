@@ -68,6 +68,11 @@ loggedOf n place ms = cond (roomForAll n place ms) (logging.Next (place + bitsOf
 unfoldable pub logAfterAll : List ℕ → ℕ → List Message → List ℕ
 logAfterAll log place ms = cond (roomForAll (length log) place ms) (logged log place ms) log
 
+-- document 01's number and the next place: 9 where the place is past the usable log, or there are too few bits for all records
+abbrev pub toldLogged : Logged → ℕ × ℕ
+toldLogged (logging.Next place) = (0, place)
+toldLogged logging.Full = (9, 0)
+
 -- ---- the same, message by message
 
 -- a log, and the place of the next record in it
