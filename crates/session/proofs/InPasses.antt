@@ -14,24 +14,19 @@ use Rattle.tree.specs.Ranges.{inRange}
 use Rattle.tree.specs.Sides.{adjacent}
 use Rattle.tree.specs.Sizes.{size, sizes}
 use Rattle.tree.proofs.Cases.{lt-or-le}
+use Rattle.tree.proofs.Every.{same-test}
 use Rattle.tree.proofs.InRule.{in-rule-exactly}
 use Rattle.tree.proofs.Listed.{sizes-read}
 use Rattle.tree.proofs.Sizes.{sizes-add, size-below}
-use Rattle.session.specs.Holding.{leaseOf, cacheOf, sentOf, Typed}
+use Rattle.session.specs.Holding.{leaseOf, cacheOf, sentOf}
 use Rattle.session.specs.Passes.{pairs, values, ordered}
 use Rattle.session.specs.Soundness.{limit, Sound, inLimits, sound}
 use Rattle.session.specs.declared.Session.{Session}
 use Rattle.session.proofs.Indices.{pair-up, pair-down, to-child, to-parent, by-child}
-use Rattle.session.proofs.AllEntries.{used-at, unused-at, entries-of, value-at, values-of}
+use Rattle.session.proofs.AllEntries.{entry-used, entry-unused, entries-of, value-at, values-of}
 use Rattle.session.proofs.Limits.{limits-parts, limits-of}
 use Rattle.session.proofs.Ordering.{pass-says, pass-holds, by-kind, of-kinds}
 use Rattle.session.proofs.Soundly.{limits, sound-exactly}
-
--- two tests that hold together are equal
-same : (a b : Bool) → (a ≡ true → b ≡ true) → (b ≡ true → a ≡ true) → a ≡ b
-same true b f g = sym (f refl)
-same false true f g = g refl
-same false false f g = refl
 
 -- every parent is a place, also of a node that is not there
 parent-place : (ps : List ℕ) (n : ℕ) → InRule ps n → length ps ≡ 256 → (j : ℕ) → parent ps j < 256
@@ -62,7 +57,11 @@ module _ (s : Session) where
 
   -- all that is tested, in turn
   abbrev pub passes : Bool
-  passes = inRule ps n && (leb (s .accepted) limit && (nearPass && (farPass && (values n (s .values) && orderPass))))
+  passes = inRule ps n && (leb (s .accepted) limit && (((nearPass && farPass) && values n (s .values)) && orderPass))
+
+  -- past the first two tests the passes are made together
+  pub together : {a b c d : Bool} → inRule ps n ≡ true → leb (s .accepted) limit ≡ true → a ≡ nearPass → b ≡ farPass → c ≡ values n (s .values) → d ≡ orderPass → (((a && b) && c) && d) ≡ passes
+  together rule few e f g h = rw (rule, few, e, f, g, h)
 
   -- the entries at a child's place are those of both pairs of its edge
   module _ (r : InRule ps n) (i : ℕ) (z : 0 < i) (h : i < n) where
@@ -78,12 +77,13 @@ module _ (s : Session) where
         omega (arith, sizes-read ps n r i (omega (arith, r .few)), size-below ps n (r .grown) i z h, sizes-add ps n (r .grown) i (parent ps i) h (omega arith) (to-child ps n (r .grown) i z h)) in
         rw (e, pair-down 0 (s .up .lease) (s .down .lease) (parent ps i) i g, pair-down (pos 0) (s .up .cache) (s .down .cache) (parent ps i) i g, pair-down 0 (s .up .messages) (s .down .messages) (parent ps i) i g)
 
-  module _ (typed : Typed s) where
+  -- room is kept for 256 nodes
+  module _ (parents-long : length ps ≡ 256) (up-long : length (s .up .lease) ≡ 256) (down-long : length (s .down .lease) ≡ 256) where
     up-place : InRule ps n → (j : ℕ) → parent ps j < length (s .up .lease)
-    up-place r j = omega (arith, parent-place ps n r (typed .parents-long) j, typed .up-long .leases)
+    up-place r j = omega (arith, parent-place ps n r parents-long j, up-long)
 
     down-place : InRule ps n → (j : ℕ) → parent ps j < length (s .down .lease)
-    down-place r j = omega (arith, parent-place ps n r (typed .parents-long) j, typed .down-long .leases)
+    down-place r j = omega (arith, parent-place ps n r parents-long j, down-long)
 
     -- the passes of a sound session
     module _ (f : Sound 2 s) where
@@ -126,7 +126,7 @@ module _ (s : Session) where
           caches-in = λ u v hu hv e. record { within = parts u v hu hv e .1 .1 };
           few = few;
           paid = λ u v hu hv e. parts u v hu hv e .1 .0;
-          no-pairs = λ i h u. (unused-at n twice (λ i. getD (sizes ps n) i 0) (s .up) a i h u, unused-at n twice (λ i. n - getD (sizes ps n) i 0) (s .down) b i h u);
+          no-pairs = λ i h u. (entry-unused n twice (λ i. getD (sizes ps n) i 0) (s .up) a i h u, entry-unused n twice (λ i. n - getD (sizes ps n) i 0) (s .down) b i h u);
           no-values = value-at n (s .values) c;
         }
       where
@@ -134,22 +134,20 @@ module _ (s : Session) where
         parts u v hu hv e =
             limits-parts 2 _ _ (leaseOf s u v) (cacheOf s u v) (sentOf s u v)
             (by-child ps n (r .grown) (λ u v. limits 2 s u v ≡ true)
-            (λ i z h. sym (up-limits r i z h) ∙ used-at n twice (λ i. getD (sizes ps n) i 0) (s .up) a (r .few) i z h)
-            (λ i z h. sym (down-limits r i z h) ∙ used-at n twice (λ i. n - getD (sizes ps n) i 0) (s .down) b (r .few) i z h) u v hu hv e)
+            (λ i z h. sym (up-limits r i z h) ∙ entry-used n twice (λ i. getD (sizes ps n) i 0) (s .up) a i z h)
+            (λ i z h. sym (down-limits r i z h) ∙ entry-used n twice (λ i. n - getD (sizes ps n) i 0) (s .down) b i z h) u v hu hv e)
 
     pub sound-passes : sound 2 s ≡ passes
-    sound-passes = same _ _
+    sound-passes = same-test _ _
         (λ e.
         let f = sound-exactly 2 s .0 e in
         ap₂ _&&_ (in-rule-exactly ps n .1 (f .tree-in-rule))
         (ap₂ _&&_ (le-leb (s .accepted) limit (f .few))
-        (ap₂ _&&_ (near-passes f)
-        (ap₂ _&&_ (far-passes f)
-        (ap₂ _&&_ (values-of n (s .values) (f .no-values)) (order-passes f))))))
+        (ap₂ _&&_ (ap₂ _&&_ (ap₂ _&&_ (near-passes f) (far-passes f)) (values-of n (s .values) (f .no-values))) (order-passes f))))
         (λ e.
-        let p = and-eq-true-iff (inRule ps n) _ .0 e in
-        let q = and-eq-true-iff (leb (s .accepted) limit) _ .0 (p .1) in
-        let t = and-eq-true-iff nearPass _ .0 (q .1) in
-        let u = and-eq-true-iff farPass _ .0 (t .1) in
-        let v = and-eq-true-iff (values n (s .values)) orderPass .0 (u .1) in
-        sound-exactly 2 s .1 (sound-by (in-rule-exactly ps n .0 (p .0)) (leb-true (s .accepted) limit (q .0)) (t .0) (u .0) (v .0) (v .1)))
+        let p = and-eq-true-iff (inRule ps n) (leb (s .accepted) limit && (((nearPass && farPass) && values n (s .values)) && orderPass)) .0 e in
+        let q = and-eq-true-iff (leb (s .accepted) limit) (((nearPass && farPass) && values n (s .values)) && orderPass) .0 (p .1) in
+        let t = and-eq-true-iff ((nearPass && farPass) && values n (s .values)) orderPass .0 (q .1) in
+        let u = and-eq-true-iff (nearPass && farPass) (values n (s .values)) .0 (t .0) in
+        let v = and-eq-true-iff nearPass farPass .0 (u .0) in
+        sound-exactly 2 s .1 (sound-by (in-rule-exactly ps n .0 (p .0)) (leb-true (s .accepted) limit (q .0)) (v .0) (v .1) (u .1) (t .1)))

@@ -1,20 +1,20 @@
--- The limits of an entry, test by test: the first that fails decides.
+-- The limits of an entry, and what they say together.
 use mathlib.Core.Path.{_≡_, refl, sym, ap, ap₂, _∙_}
-use mathlib.Core.Bool.{Bool, true, false, not, _&&_, true≢false, and-false, and-eq-true-iff}
-use mathlib.Core.Logic.{_⊎_, inl, inr}
-use Prim.Native.Nat.{ℕ, zero, suc, _*_, _^_, _≤_, _<_}
+use mathlib.Core.Bool.{Bool, true, false, not, _&&_, true≢false, and-eq-true-iff}
+use Prim.Native.Nat.{ℕ, zero, suc, _+_, _*_, _^_, _≤_, _<_}
 use native.Mathlib.Omega.{arith}
-use lib.Dec.{leb, ltb}
+use lib.Dec.{eqb, leb, ltb}
+use lib.Bits.{bitOr, or-add-and, and-le-l, and-le-r}
 use lib.IntN.{ℤ, pos, negsuc, negℤ}
 use lib.Signed.{leZ, ltZ, mag}
-use borrow.Author.Tests.{leb-true, ltb-true, ltb-false, le-leb, lt-leb, lt-ltb, le-ltb}
-use mir.Syntax.{w32, w64}
+use borrow.Author.Tests.{leb-true, ltb-true, ltb-false, le-leb, lt-leb, eqb-true, eq-eqb}
+use mir.Syntax.{Width, w64}
 use mir.Val.{SFits, toZ, ofZ}
 use mir.Facts.{toZ-ofZ}
 use Rattle.tree.specs.Ranges.{inRange}
-use Rattle.tree.proofs.Cases.{never}
+use Rattle.tree.specs.Every.{every, from}
+use Rattle.tree.proofs.Every.{from-more, same-test}
 use Rattle.session.specs.Soundness.{inLimits}
-use Rattle.session.specs.Passes.{entry}
 
 -- ---- the range: its lower end has 64 bits
 
@@ -68,29 +68,28 @@ zero-in-range k = ap₂ _&&_ (not-above (k * 2147483648)) (le-leb 0 (k * 2147483
 pub zero-in : (z : ℤ) → z ≡ pos 0 → inRange 0 z ≡ true
 zero-in z e = ap (inRange 0) e ∙ zero-in-range 0
 
--- as the bits of a value tell
-pub zero-bits : (z : ℤ) → SFits w32 z → ofZ w32 z ≡ 0 → inRange 0 z ≡ true
-zero-bits z f e = zero-in z (sym (toZ-ofZ f) ∙ ap (toZ w32) e)
+-- as its bits tell
+pub zero-test : (w : Width) (z : ℤ) → toZ w 0 ≡ pos 0 → ofZ w (pos 0) ≡ 0 → SFits w z → eqb (ofZ w z) 0 ≡ inRange 0 z
+zero-test w z back forth f = same-test _ _
+    (λ e. zero-in z (sym (toZ-ofZ f) ∙ ap (toZ w) (eqb-true (ofZ w z) 0 e) ∙ back))
+    (λ e. eq-eqb (ofZ w z) 0 (ap (ofZ w) (only-zero z e) ∙ forth))
 
-pub other-bits : (z : ℤ) → (ofZ w32 z ≡ 0 → ⊥) → inRange 0 z ≡ false
-other-bits z f = never (inRange 0 z) (λ e. f (ap (ofZ w32) (only-zero z e)))
+-- what is joined by `|` is zero where both are
+pub or-none : (a b : ℕ) → eqb (bitOr a b) 0 ≡ (eqb a 0 && eqb b 0)
+or-none a b = same-test _ _
+    (λ e.
+    let n = eqb-true (bitOr a b) 0 e in
+    ap₂ _&&_ (eq-eqb a 0 (omega (arith, n, or-add-and a b, and-le-r a b))) (eq-eqb b 0 (omega (arith, n, or-add-and a b, and-le-l a b))))
+    (λ e.
+    let p = and-eq-true-iff (eqb a 0) (eqb b 0) .0 e in
+    eq-eqb (bitOr a b) 0 (omega (arith, or-add-and a b, eqb-true a 0 (p .0), eqb-true b 0 (p .1))))
+
+pub none-more : (test : ℕ → Bool) (k i a b : ℕ) → k ≤ i → eqb a 0 ≡ every (from k test) i → eqb b 0 ≡ test i → eqb (bitOr a b) 0 ≡ every (from k test) (i + 1)
+none-more test k i a b h e f = or-none a b ∙ from-more test k i (eqb a 0) (eqb b 0) h e f
 
 -- ---- lease number, messages and cache
 
 module _ (b k twice lease : ℕ) (cache : ℤ) (messages : ℕ) where
-  pub lease-above : b < lease → inLimits b k twice lease cache messages ≡ false
-  unfolding inLimits
-  lease-above h = rw (lt-leb lease b h)
-
-  pub messages-above : twice < messages → inLimits b k twice lease cache messages ≡ false
-  unfolding inLimits
-  messages-above h = rw (lt-leb messages twice h, and-false (leb lease b))
-
-  pub range-left : lease ≤ b → messages ≤ twice → inLimits b k twice lease cache messages ≡ inRange k cache
-  unfolding inLimits
-  range-left g h = rw (le-leb lease b g, le-leb messages twice h)
-
-  -- what they say together
   pub limits-parts : inLimits b k twice lease cache messages ≡ true → (lease ≤ b) × ((messages ≤ twice) × (inRange k cache ≡ true))
   unfolding inLimits
   limits-parts e =
@@ -99,26 +98,5 @@ module _ (b k twice lease : ℕ) (cache : ℤ) (messages : ℕ) where
       (leb-true lease b (p .0), (leb-true messages twice (q .0), q .1))
 
   pub limits-of : lease ≤ b → messages ≤ twice → inRange k cache ≡ true → inLimits b k twice lease cache messages ≡ true
-  limits-of g h e = range-left g h ∙ e
-
--- ---- an entry that is used, and one that is not
-
-module _ (n i twice k lease : ℕ) (cache : ℤ) (messages : ℕ) where
-  pub as-used : (r : Bool) (b : ℕ) → r ≡ inLimits b k twice lease cache messages → b ≡ 2 → (ltb 0 i && ltb i n) ≡ true → r ≡ entry n i twice k lease cache messages
-  unfolding entry
-  as-used r b told e t = told ∙ rw (t, e)
-
-  pub as-unused : (r : Bool) → r ≡ inLimits 0 0 0 lease cache messages → (ltb 0 i && ltb i n) ≡ false → r ≡ entry n i twice k lease cache messages
-  unfolding entry
-  as-unused r told t = told ∙ rw t
-
-  pub entry-used : 0 < i → i < n → entry n i twice k lease cache messages ≡ inLimits 2 k twice lease cache messages
-  entry-used z h = sym (as-used _ 2 refl refl (ap₂ _&&_ (lt-ltb 0 i z) (lt-ltb i n h)))
-
-  pub entry-unused : (i ≡ 0) ⊎ (n ≤ i) → entry n i twice k lease cache messages ≡ inLimits 0 0 0 lease cache messages
-  entry-unused (inl e) = sym (as-unused _ refl (rw (le-ltb 0 i (omega arith))))
-  entry-unused (inr h) = sym (as-unused _ refl (rw (le-ltb i n h, and-false (ltb 0 i))))
-
-  -- as it is read
-  pub entry-read : mag cache < 2 ^ 63 → entry n i twice k lease (toZ w64 (ofZ w64 cache)) messages ≡ entry n i twice k lease cache messages
-  entry-read h = ap (λ (z : ℤ). entry n i twice k lease z messages) (toZ-ofZ (record { sfits = h }))
+  unfolding inLimits
+  limits-of g h e = rw (le-leb lease b g, le-leb messages twice h, e)

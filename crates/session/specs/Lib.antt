@@ -1,5 +1,6 @@
 -- What a reader must believe of sessions: what they hold, when they are sound, how they start, their table, and the promises.
 pub mod Holding
+pub mod Parts
 pub mod Soundness
 pub mod Passes
 pub mod Starting

@@ -1,31 +1,34 @@
 -- The tests of a session's entries as they are made: in passes over the places.
-use mathlib.Core.Bool.{Bool, true, false, cond, _&&_, _||_}
+use mathlib.Core.Bool.{Bool, true, false, _&&_}
 use mathlib.Core.List.{List}
 use Prim.Native.Nat.{ℕ, zero, suc, _-_, min, max}
-use lib.Dec.{leb, ltb}
+use lib.Dec.{eqb, leb}
 use lib.IntN.{ℤ, pos}
 use lib.ListN.{getD, set}
-use Rattle.tree.specs.Every.{every}
+use Rattle.tree.specs.Every.{every, from, places}
 use Rattle.tree.specs.Parents.{parent}
 use Rattle.tree.specs.Ranges.{inRange}
-use Rattle.session.specs.Soundness.{inLimits}
-
--- the entry at i of a pair whose near side has k nodes
-unfoldable pub entry : ℕ → ℕ → ℕ → ℕ → ℕ → ℤ → ℕ → Bool
-entry n i twice k lease cache messages = cond (ltb 0 i && ltb i n) (inLimits 2 k twice lease cache messages) (inLimits 0 0 0 lease cache messages)
 
 -- how many nodes are on the near side, k of n below the child: they, or for a pair from parent to child the rest
 abbrev pub nearSize : ℕ → Bool → ℕ → ℕ
 nearSize n false k = k
 nearSize n true k = n - k
 
+-- numbers of pairs: at most m where there is a pair, and none where there is not
+abbrev pub numbers : ℕ → ℕ → List ℕ → Bool
+numbers n m l = places n (λ i. leb (getD l i 0) m) (λ i. eqb (getD l i 0) 0)
+
+-- caches: each in the range of the near side, k i nodes, and zero where there is no pair
+abbrev pub caches : ℕ → (ℕ → ℕ) → List ℤ → Bool
+caches n k l = places n (λ i. inRange (k i) (getD l i (pos 0))) (λ i. inRange 0 (getD l i (pos 0)))
+
 -- all entries of one direction; ks has the nodes at or below each node
 unfoldable pub pairs : ℕ → ℕ → Bool → List ℕ → List ℕ → List ℤ → List ℕ → Bool
-pairs n twice down ks leases caches counts = every (λ i. entry n i twice (nearSize n down (getD ks i 0)) (getD leases i 0) (getD caches i (pos 0)) (getD counts i 0)) 256
+pairs n twice down ks ls cs ms = (numbers n 2 ls && numbers n twice ms) && caches n (λ i. nearSize n down (getD ks i 0)) cs
 
 -- all values of nodes that are not there
 unfoldable pub values : ℕ → List ℤ → Bool
-values n vs = every (λ i. ltb i n || inRange 0 (getD vs i (pos 0))) 256
+values n vs = every (from n (λ i. inRange 0 (getD vs i (pos 0)))) 256
 
 -- what each node keeps of its children 1 to k, from a start on
 unfoldable pub fromChildren : (ℕ → ℕ → ℕ) → List ℕ → List ℕ → List ℕ → ℕ → List ℕ

@@ -1,13 +1,15 @@
 // The entries of pairs and values: within their limits where they are used, zero where they are not.
 ghost use mathlib.Core.Path.{_≡_};
-ghost use mathlib.Core.Bool.{cond};
 ghost use Prim.Native.Nat.{_-_, _≤_};
-ghost use lib.ListN.{length};
+ghost use lib.Dec.{eqb, leb};
+ghost use lib.IntN.{pos};
+ghost use lib.ListN.{getD};
+ghost use Rattle.tree.specs.Every.{every, from};
 ghost use Rattle.tree.specs.Ranges.{inRange};
-ghost use Rattle.session.specs.Soundness as spec;
 ghost use Rattle.session.specs.Passes as pass;
 
-// The entries of all pairs of one direction: from child to parent, or from parent to child (down).
+// The entries of all pairs of one direction: from child to parent, or from parent to child (down). Each
+// pass goes over all its places, whatever it finds.
 pub fn pairs<'a>(
     count: u16,
     twice: u32,
@@ -17,61 +19,117 @@ pub fn pairs<'a>(
     cache: &'a [i64; 256],
     messages: &'a [u32; 256],
 ) -> bool
+    requires { ⌜ (1 ≤ count) × (count ≤ 256) ⌝ }
     ensures { λ r. ⌜ r ≡ pass.pairs count twice down (now (sizes .entry)) (now (lease .entry)) (now (cache .entry)) (now (messages .entry)) ⌝ }
 {
-    let mut i: usize = 0;
-    while i < 256 {
-        if !entry(
-            count,
-            i,
-            twice,
-            near_size(count, down, sizes[i]),
-            lease[i],
-            cache[i],
-            messages[i],
-        ) {
-            return false;
-        }
+    let n = count as usize;
+    let leased = no_leases(0, 1, lease) & leases(n, 2, lease) & no_leases(n, 256, lease);
+    let counted = no_counts(0, 1, messages)
+        & counts(n, twice, messages)
+        & no_counts(n, 256, messages);
+    let cached = no_caches(0, 1, cache)
+        & caches(count, down, sizes, cache)
+        & no_caches(n, 256, cache);
+    leased & counted & cached
+}
+
+// The lease numbers of the nodes from 1 on: none is above most.
+fn leases(end: usize, most: u8, lease: &[u8; 256]) -> bool
+    requires { ⌜ (1 ≤ end) × (end ≤ 256) ⌝ }
+    ensures { λ r. ⌜ r ≡ every (from 1 (λ i. leb (getD (now (lease .entry)) i 0) most)) end ⌝ }
+{
+    let mut good = true;
+    let mut i: usize = 1;
+    while i < end {
+        good = good & (lease[i] <= most);
         i += 1;
     }
-    true
+    good
+}
+
+// The numbers of messages of the nodes from 1 on: none is above most.
+fn counts(end: usize, most: u32, messages: &[u32; 256]) -> bool
+    requires { ⌜ (1 ≤ end) × (end ≤ 256) ⌝ }
+    ensures { λ r. ⌜ r ≡ every (from 1 (λ i. leb (getD (now (messages .entry)) i 0) most)) end ⌝ }
+{
+    let mut good = true;
+    let mut i: usize = 1;
+    while i < end {
+        good = good & (messages[i] <= most);
+        i += 1;
+    }
+    good
+}
+
+// The caches of the nodes from 1 on: each is in the range of its pair's near side.
+fn caches<'a>(count: u16, down: bool, sizes: &'a [u16; 256], cache: &'a [i64; 256]) -> bool
+    requires { ⌜ (1 ≤ count) × (count ≤ 256) ⌝ }
+    ensures { λ r. ⌜ r ≡ every (from 1 (λ i. inRange (pass.nearSize count down (getD (now (sizes .entry)) i 0)) (getD (now (cache .entry)) i (pos 0)))) count ⌝ }
+{
+    let n = count as usize;
+    let mut good = true;
+    let mut i: usize = 1;
+    while i < n {
+        good = good & in_range(near_size(count, down, sizes[i]), cache[i]);
+        i += 1;
+    }
+    good
+}
+
+// No lease number from one place to before another: what is joined by `|` is zero where all of it is.
+fn no_leases(first: usize, end: usize, lease: &[u8; 256]) -> bool
+    requires { ⌜ (first ≤ end) × (end ≤ 256) ⌝ }
+    ensures { λ r. ⌜ r ≡ every (from first (λ i. eqb (getD (now (lease .entry)) i 0) 0)) end ⌝ }
+{
+    let mut any: u8 = 0;
+    let mut i = first;
+    while i < end {
+        any = any | lease[i];
+        i += 1;
+    }
+    any == 0
+}
+
+// No messages.
+fn no_counts(first: usize, end: usize, messages: &[u32; 256]) -> bool
+    requires { ⌜ (first ≤ end) × (end ≤ 256) ⌝ }
+    ensures { λ r. ⌜ r ≡ every (from first (λ i. eqb (getD (now (messages .entry)) i 0) 0)) end ⌝ }
+{
+    let mut any: u32 = 0;
+    let mut i = first;
+    while i < end {
+        any = any | messages[i];
+        i += 1;
+    }
+    any == 0
+}
+
+// No cache.
+fn no_caches(first: usize, end: usize, cache: &[i64; 256]) -> bool
+    requires { ⌜ (first ≤ end) × (end ≤ 256) ⌝ }
+    ensures { λ r. ⌜ r ≡ every (from first (λ i. inRange 0 (getD (now (cache .entry)) i (pos 0)))) end ⌝ }
+{
+    let mut any: i64 = 0;
+    let mut i = first;
+    while i < end {
+        any = any | cache[i];
+        i += 1;
+    }
+    any == 0
 }
 
 // The values of nodes that are not there.
 pub fn values(count: u16, values: &[i32; 256]) -> bool
+    requires { ⌜ count ≤ 256 ⌝ }
     ensures { λ r. ⌜ r ≡ pass.values count (now (values .entry)) ⌝ }
 {
+    let mut good = true;
     let mut i = count as usize;
     while i < 256 {
-        if values[i] != 0 {
-            return false;
-        }
+        good = good & (values[i] == 0);
         i += 1;
     }
-    true
-}
-
-// The entry at i of a pair whose near side has so many nodes.
-fn entry(count: u16, i: usize, twice: u32, size: u16, lease: u8, cache: i64, messages: u32) -> bool
-    ensures { λ r. ⌜ r ≡ pass.entry count i twice size lease cache messages ⌝ }
-{
-    if (0 < i) & (i < count as usize) {
-        return in_limits(2, size, twice, lease, cache, messages);
-    }
-    in_limits(0, 0, 0, lease, cache, messages)
-}
-
-// Whether lease number, cache and messages are within their limits.
-fn in_limits(most: u8, size: u16, twice: u32, lease: u8, cache: i64, messages: u32) -> bool
-    ensures { λ r. ⌜ r ≡ spec.inLimits most size twice lease cache messages ⌝ }
-{
-    if most < lease {
-        return false;
-    }
-    if twice < messages {
-        return false;
-    }
-    in_range(size, cache)
+    good
 }
 
 // Whether z is in the range of a sum over k nodes.

@@ -7,6 +7,7 @@ mod order; // the inequality between neighbouring pairs
 
 ghost use mathlib.Core.Path.{_≡_};
 ghost use lib.ListN.{length};
+ghost use Rattle.session.specs.Parts.{sessionBy};
 ghost use Rattle.session.specs.Soundness.{sound};
 ghost use Rattle.session.specs.Starting.{startedOf, loadedOf};
 ghost use Rattle.session.specs.Tables.{writtenOf, outputOf};
@@ -80,41 +81,18 @@ impl Session {
     pub fn is_sound(self) -> bool
         ensures { λ r. ⌜ r ≡ sound 2 self ⌝ }
     {
-        if !self.tree.in_rule() {
-            return false;
-        }
-        if 1048576 < self.accepted {
-            return false;
-        }
-        let count = self.tree.count;
-        let twice = 2 * self.accepted;
-        let sizes = self.tree.sizes();
-        if !entry::pairs(
-            count,
-            twice,
-            false,
-            &sizes,
+        parts_are_sound(
+            self.tree.count,
+            &self.tree.parents,
+            &self.values,
             &self.up.lease,
             &self.up.cache,
             &self.up.messages,
-        ) {
-            return false;
-        }
-        if !entry::pairs(
-            count,
-            twice,
-            true,
-            &sizes,
             &self.down.lease,
             &self.down.cache,
             &self.down.messages,
-        ) {
-            return false;
-        }
-        if !entry::values(count, &self.values) {
-            return false;
-        }
-        order::ordered(count, &self.tree.parents, &self.up.lease, &self.down.lease)
+            self.accepted,
+        )
     }
 
     // Writes the table of the session's tree into the first bytes, and leaves later ones as they are.
@@ -131,6 +109,59 @@ impl Session {
             bytes: 0,
         }
     }
+}
+
+// Whether the session that holds these parts is sound, for whoever has them at hand and would have to
+// copy them to ask the session itself.
+pub fn parts_are_sound<'a>(
+    count: u16,
+    parents: &'a [u8; 256],
+    values: &'a [i32; 256],
+    up_lease: &'a [u8; 256],
+    up_cache: &'a [i64; 256],
+    up_messages: &'a [u32; 256],
+    down_lease: &'a [u8; 256],
+    down_cache: &'a [i64; 256],
+    down_messages: &'a [u32; 256],
+    accepted: u32,
+) -> bool
+    ensures { λ r. ⌜ r ≡ sound 2 (sessionBy count (now (parents .entry)) (now (values .entry)) (now («up_lease» .entry)) (now («up_cache» .entry)) (now («up_messages» .entry)) (now («down_lease» .entry)) (now («down_cache» .entry)) (now («down_messages» .entry)) accepted) ⌝ }
+{
+    full(parents);
+    full(up_lease);
+    full(down_lease);
+    let tree = Tree {
+        count,
+        parents: *parents,
+    };
+    let sizes = tree.sizes();
+    // A tree out of rule has zeros for sizes; in any other the root has itself below it.
+    if sizes[0] == 0 {
+        return false;
+    }
+    if 1048576 < accepted {
+        return false;
+    }
+    let twice = 2 * accepted;
+    entry::pairs(count, twice, false, &sizes, up_lease, up_cache, up_messages)
+        & entry::pairs(
+            count,
+            twice,
+            true,
+            &sizes,
+            down_lease,
+            down_cache,
+            down_messages,
+        )
+        & entry::values(count, values)
+        & order::ordered(count, parents, up_lease, down_lease)
+}
+
+// That 256 bytes are lent is known by their type, and to the proof once a slice is made of them.
+fn full(bytes: &[u8; 256])
+    ensures { λ _. ⌜ length (now (bytes .entry)) ≡ 256 ⌝ }
+{
+    let slice: &[u8] = bytes;
 }
 
 // A session with zeros in all but the tree.

@@ -1,17 +1,17 @@
 -- A tree in rule: the test, entry by entry, and the facts it stands for.
 use mathlib.Core.Path.{_≡_, sym, _∙_}
-use mathlib.Core.Bool.{true, false, _&&_, and-false, and-eq-true-iff}
+use mathlib.Core.Bool.{Bool, true, false, _&&_, and-false, and-eq-true-iff}
 use mathlib.Core.Logic.{_⊎_, inl, inr}
 use mathlib.Core.List.{List}
 use Prim.Native.Nat.{ℕ, _≤_, _<_}
 use native.Mathlib.Omega.{arith}
 use lib.Dec.{eqb, ltb, leb}
 use borrow.Author.Tests.{lt-ltb, le-ltb, ltb-true, leb-true, le-leb, lt-leb, eqb-true, eq-eqb}
-use Rattle.tree.specs.Every.{every}
+use Rattle.tree.specs.Every.{every, places}
 use Rattle.tree.specs.Parents.{parent, InRule, entryInRule, entryAt, inRule}
 use Rattle.tree.specs.Promises.{In-rule-exactly}
 use Rattle.tree.proofs.Cases.{lt-or-le}
-use Rattle.tree.proofs.Every.{every-at, every-of}
+use Rattle.tree.proofs.Every.{every-at, every-of, used-at, unused-at, places-of, same-test}
 
 -- an entry that is used, and one that is not
 pub entry-used : (n i p : ℕ) → 0 < i → i < n → entryInRule n i p ≡ ltb p i
@@ -36,6 +36,25 @@ module _ (ps : List ℕ) (n : ℕ) where
   pub within-bounds : 1 ≤ n → n ≤ 256 → inRule ps n ≡ every (entryAt ps n) 256
   unfolding inRule
   within-bounds a b = rw (le-leb 1 n a, le-leb n 256 b)
+
+-- the passes over the used and the unused places
+module _ (ps : List ℕ) (n : ℕ) (few : n ≤ 256) where
+  abbrev smaller : ℕ → Bool
+  smaller i = ltb (parent ps i) i
+
+  abbrev zero : ℕ → Bool
+  zero i = eqb (parent ps i) 0
+
+  pub passes-say : places n smaller zero ≡ every (entryAt ps n) 256
+  passes-say = same-test _ _
+      (λ t. every-of (entryAt ps n) 256 (λ i h. lt-or-le 0 i
+      (λ z. lt-or-le i n
+      (λ l. entry-used n i (parent ps i) z l ∙ used-at n smaller zero t i z l)
+      (λ l. entry-unused n i (parent ps i) (inr l) ∙ unused-at n smaller zero t i h (inr l)))
+      (λ z. let o : i ≡ 0 = omega arith in entry-unused n i (parent ps i) (inl o) ∙ unused-at n smaller zero t i h (inl o))))
+      (λ t. places-of n smaller zero
+      (λ i z h. sym (entry-used n i (parent ps i) z h) ∙ every-at (entryAt ps n) 256 i t (omega arith))
+      (λ i h u. sym (entry-unused n i (parent ps i) u) ∙ every-at (entryAt ps n) 256 i t h))
 
 pub in-rule-exactly : In-rule-exactly
 unfolding inRule

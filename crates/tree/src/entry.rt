@@ -1,7 +1,10 @@
 // Which entries of a tree are in rule.
+use crate::edge;
 ghost use mathlib.Core.Path.{_≡_};
-ghost use Rattle.tree.specs.Every.{every};
-ghost use Rattle.tree.specs.Parents.{entryInRule, entryAt, inRule};
+ghost use Prim.Native.Nat.{_≤_};
+ghost use lib.Dec.{ltb, eqb};
+ghost use Rattle.tree.specs.Every.{every, from};
+ghost use Rattle.tree.specs.Parents.{parent, entryAt, inRule};
 
 // Whether the count is 1 to 256 and all entries are in rule.
 pub fn in_rule(count: usize, parents: &[u8; 256]) -> bool
@@ -16,29 +19,39 @@ pub fn in_rule(count: usize, parents: &[u8; 256]) -> bool
     entries_in_rule(count, parents)
 }
 
-// Whether all entries are in rule.
+// Whether all entries are in rule: the root's and those from the count on are zero, and each parent is
+// smaller than its child. A pass goes over all its places, whatever it finds.
 pub fn entries_in_rule(count: usize, parents: &[u8; 256]) -> bool
+    requires { ⌜ (1 ≤ count) × (count ≤ 256) ⌝ }
     ensures { λ r. ⌜ r ≡ every (entryAt (now (parents .entry)) count) 256 ⌝ }
 {
-    let mut i: usize = 0;
-    while i < 256 {
-        if !entry_in_rule(count, i, parents[i]) {
-            return false;
-        }
-        i += 1;
-    }
-    true
+    zero(0, 1, parents) & grown(count, parents) & zero(count, 256, parents)
 }
 
-// Whether the entry at i is: a parent smaller than its child, or zero where it is not used.
-pub fn entry_in_rule(count: usize, i: usize, parent: u8) -> bool
-    ensures { λ r. ⌜ r ≡ entryInRule count i parent ⌝ }
+// Whether every parent of a node from 1 on is smaller than the node.
+fn grown(count: usize, parents: &[u8; 256]) -> bool
+    requires { ⌜ (1 ≤ count) × (count ≤ 256) ⌝ }
+    ensures { λ r. ⌜ r ≡ every (from 1 (λ i. ltb (parent (now (parents .entry)) i) i)) count ⌝ }
 {
-    if i < 1 {
-        return parent == 0;
+    let mut good = true;
+    let mut i: usize = 1;
+    while i < count {
+        good = good & (edge::node(parents[i]) < i);
+        i += 1;
     }
-    if count <= i {
-        return parent == 0;
+    good
+}
+
+// Whether every entry from one place to before another is zero.
+fn zero(first: usize, end: usize, parents: &[u8; 256]) -> bool
+    requires { ⌜ (first ≤ end) × (end ≤ 256) ⌝ }
+    ensures { λ r. ⌜ r ≡ every (from first (λ i. eqb (parent (now (parents .entry)) i) 0)) end ⌝ }
+{
+    let mut good = true;
+    let mut i = first;
+    while i < end {
+        good = good & (parents[i] == 0);
+        i += 1;
     }
-    (parent as usize) < i
+    good
 }

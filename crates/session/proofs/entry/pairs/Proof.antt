@@ -1,102 +1,66 @@
--- `entry::pairs` meets its contract: every entry is tested, and the first that fails ends it.
-use mathlib.Core.Path.{_≡_, sym, _∙_}
-use mathlib.Core.Bool.{true}
-use Prim.Native.Nat.{ℕ, _-_, _≤_}
-use lib.IntN.{pos}
-use lib.ListN.{getD}
-use native.Mathlib.Omega.{arith}
+-- `entry::pairs` meets its contract: the passes over lease numbers, messages and caches, each over the root, the nodes from 1 on and the rest.
+use mathlib.Core.Path.{ap₂}
+use mathlib.Core.Bool.{_&&_}
 use borrow.Author.Needs.{needs}
-use borrow.Author.Tests.{not-true, not-false}
-use Rattle.tree.specs.Every.{every}
-use Rattle.tree.proofs.Every.{every-none, every-more, every-fails}
-use Rattle.session.specs.Passes.{pairs, entry, nearSize}
-use Rattle.session.proofs.Limits.{entry-read}
+use Rattle.session.specs.Passes.{pairs}
 use Rattle.session.proofs.entry.pairs.Statement.{statement}
 use Rattle.session.proofs.entry.pairs.Tie as tie
 
-abbrev Inv-loop : tie.InvT-loop
-Inv-loop count twice down sizes lease cache messages i₀ i =
-    (i ≤ 256) × (every (λ j. entry count j twice (nearSize count down (getD sizes j 0)) (getD lease j 0) (getD cache j (pos 0)) (getD messages j 0)) i ≡ true)
+no-leases-requires : tie.Need-no-leases-requires
+no-leases-requires c κs = search needs
 
-abbrev μ-loop : tie.MeasureT-loop
-μ-loop count twice down sizes lease cache messages i₀ i = 256 - i
+leases-requires : tie.Need-leases-requires
+leases-requires c κs = search needs
 
--- what the test of the entry at i answers
-module _ (c : tie.After-entry Inv-loop μ-loop) where
-  abbrev start : tie.Start Inv-loop μ-loop
-  start = c .before .before .before .before .before .before .before .before
+no-leases-requires-2 : tie.Need-no-leases-requires-2
+no-leases-requires-2 c κs = search needs
 
-  abbrev i : ℕ
-  i = c .before .before .before .before .before .before .before .loop .i
+no-counts-requires : tie.Need-no-counts-requires
+no-counts-requires c κs = search needs
 
-  told : c .entry .result ≡ entry (start .args .count) i (start .args .twice) (nearSize (start .args .count) (start .args .down) (getD (start .args .sizes .now) i 0)) (getD (start .args .lease .now) i 0) (getD (start .args .cache .now) i (pos 0)) (getD (start .args .messages .now) i 0)
-  told = rw (← c .before .before .before .before .near-size .ensures) (c .entry .ensures ∙ entry-read _ _ _ _ _ _ _ (c .before .before .entry-arg2 .given))
+counts-requires : tie.Need-counts-requires
+counts-requires c κs = search needs
 
-loop-holds : tie.Need-loop-holds Inv-loop μ-loop
-loop-holds c = (omega arith, every-none _)
+no-counts-requires-2 : tie.Need-no-counts-requires-2
+no-counts-requires-2 c κs = search needs
 
-mul-near-size : tie.Need-mul-near-size Inv-loop μ-loop
-mul-near-size c = omega arith
+no-caches-requires : tie.Need-no-caches-requires
+no-caches-requires c κs = search needs
 
-element-copy-out-near-size : tie.Need-element-copy-out-near-size Inv-loop μ-loop
-element-copy-out-near-size c = search needs
+caches-requires : tie.Need-caches-requires
+caches-requires c κs = search needs
 
-near-size-requires : tie.Need-near-size-requires Inv-loop μ-loop
-near-size-requires c κs = search needs
+no-caches-requires-2 : tie.Need-no-caches-requires-2
+no-caches-requires-2 c κs = search needs
 
-element-copy-out-entry : tie.Need-element-copy-out-entry Inv-loop μ-loop
-element-copy-out-entry c = search needs
-
-mul-entry : tie.Need-mul-entry Inv-loop μ-loop
-mul-entry c = omega arith
-
-element-copy-out-entry-2 : tie.Need-element-copy-out-entry-2 Inv-loop μ-loop
-element-copy-out-entry-2 c = search needs
-
-mul-entry-2 : tie.Need-mul-entry-2 Inv-loop μ-loop
-mul-entry-2 c = omega arith
-
-element-copy-out-entry-3 : tie.Need-element-copy-out-entry-3 Inv-loop μ-loop
-element-copy-out-entry-3 c = search needs
-
-entry-requires : tie.Need-entry-requires Inv-loop μ-loop
-entry-requires c κs = search needs
-
-returns : tie.Need-returns Inv-loop μ-loop
+returns : tie.Need-returns
 unfolding pairs
-returns c = sym (every-fails _ (i (c .before)) 256 (omega arith) (sym (told (c .before)) ∙ not-true _ (c .if1 .taken)))
-
-add-i : tie.Need-add-i Inv-loop μ-loop
-add-i c = omega arith
-
-loop-less : tie.Need-loop-less Inv-loop μ-loop
-loop-less c = omega arith
-
-loop-again : tie.Need-loop-again Inv-loop μ-loop
-loop-again c = (omega arith, every-more _ (i (c .before)) (c .before .before .before .before .before .before .before .before .loop .inv .1) (sym (told (c .before)) ∙ not-false _ (c .if1 .left)))
-
-returns-2 : tie.Need-returns-2 Inv-loop μ-loop
-unfolding pairs
-returns-2 c = let e : c .before .loop .i ≡ 256 = omega arith in sym (rw e at (c .before .loop .inv .1))
+returns c =
+    let k = c .before in
+    let z = k .before in
+    let m3 = z .before in
+    let m2 = m3 .before in
+    let m1 = m2 .before in
+    let l3 = m1 .before in
+    let l2 = l3 .before in
+    let l1 = l2 .before in
+    ap₂ _&&_
+    (ap₂ _&&_
+    (ap₂ _&&_ (ap₂ _&&_ (l1 .no-leases .ensures) (l2 .leases .ensures)) (l3 .no-leases2 .ensures))
+    (ap₂ _&&_ (ap₂ _&&_ (m1 .no-counts .ensures) (m2 .counts .ensures)) (m3 .no-counts2 .ensures)))
+    (ap₂ _&&_ (ap₂ _&&_ (z .no-caches .ensures) (k .caches .ensures)) (c .no-caches2 .ensures))
 
 pub pairs-spec : {M : Type 1} → statement M
 pairs-spec =
     tie.close
     (tie.spec
-    Inv-loop
-    μ-loop
-    loop-holds
-    mul-near-size
-    element-copy-out-near-size
-    near-size-requires
-    element-copy-out-entry
-    mul-entry
-    element-copy-out-entry-2
-    mul-entry-2
-    element-copy-out-entry-3
-    entry-requires
-    returns
-    add-i
-    loop-less
-    loop-again
-    returns-2)
+    no-leases-requires
+    leases-requires
+    no-leases-requires-2
+    no-counts-requires
+    counts-requires
+    no-counts-requires-2
+    no-caches-requires
+    caches-requires
+    no-caches-requires-2
+    returns)

@@ -1,41 +1,32 @@
--- `entry::values` meets its contract: every value from the count on is tested, and the first that is not zero ends it.
-use mathlib.Core.Path.{_≡_, sym}
-use mathlib.Core.Bool.{true, _||_}
+-- `entry::values` meets its contract: every value so far, from the count on, is zero.
+use mathlib.Core.Path.{_≡_, refl}
 use Prim.Native.Nat.{_-_, _≤_}
-use lib.Dec.{ltb}
+use native.Mathlib.Omega.{arith}
 use lib.IntN.{pos}
 use lib.ListN.{getD}
-use native.Mathlib.Omega.{arith}
-use borrow.Author.Needs.{needs}
-use borrow.Author.Tests.{lt-ltb, le-ltb}
-use Rattle.tree.specs.Every.{every}
+use mir.Syntax.{w32}
+use Rattle.tree.specs.Every.{every, from}
 use Rattle.tree.specs.Ranges.{inRange}
-use Rattle.tree.proofs.Every.{every-at, every-of, every-more, every-fails}
+use Rattle.tree.proofs.Every.{from-none, from-more}
 use Rattle.session.specs.Passes.{values}
-use Rattle.session.proofs.Limits.{zero-bits, other-bits}
+use Rattle.session.proofs.Limits.{zero-test}
 use Rattle.session.proofs.entry.values.Statement.{statement}
 use Rattle.session.proofs.entry.values.Tie as tie
 
 abbrev Inv-loop : tie.InvT-loop
-Inv-loop count values i₀ i = (every (λ j. ltb j count || inRange 0 (getD values j (pos 0))) i ≡ true) × (count ≤ i)
+Inv-loop count vs good₀ i₀ good i = (count ≤ i) × (i ≤ 256) × (good ≡ every (from count (λ j. inRange 0 (getD vs j (pos 0)))) i)
 
 abbrev μ-loop : tie.MeasureT-loop
-μ-loop count values i₀ i = 256 - i
+μ-loop count vs good₀ i₀ good i = 256 - i
 
 loop-holds : tie.Need-loop-holds Inv-loop μ-loop
-loop-holds c = (every-of _ _ (λ j l. rw (lt-ltb j (c .args .count) (omega arith))), omega arith)
+loop-holds c = (omega arith, omega (arith, c .pre), from-none _ _)
 
-mul-if1 : tie.Need-mul-if1 Inv-loop μ-loop
-mul-if1 c = omega arith
+mul-good : tie.Need-mul-good Inv-loop μ-loop
+mul-good c = omega arith
 
-element-copy-out-if1 : tie.Need-element-copy-out-if1 Inv-loop μ-loop
-element-copy-out-if1 c = search needs
-
-returns : tie.Need-returns Inv-loop μ-loop
-unfolding values
-returns c =
-    let l = c .before .before .before .loop in
-    sym (every-fails _ (l .i) 256 (omega arith) (rw (le-ltb (l .i) (c .before .before .before .before .args .count) (l .inv .1)) (other-bits _ (c .if1 .taken))))
+element-copy-out-good : tie.Need-element-copy-out-good Inv-loop μ-loop
+element-copy-out-good c = omega arith
 
 add-i : tie.Need-add-i Inv-loop μ-loop
 add-i c = omega arith
@@ -44,13 +35,11 @@ loop-less : tie.Need-loop-less Inv-loop μ-loop
 loop-less c = omega arith
 
 loop-again : tie.Need-loop-again Inv-loop μ-loop
-loop-again c =
-    let l = c .before .before .before .loop in
-    (every-more _ (l .i) (l .inv .0) (rw (le-ltb (l .i) (c .before .before .before .before .args .count) (l .inv .1)) (zero-bits _ (record { sfits = c .before .if12 .given }) (c .if1 .left))), omega arith)
+loop-again c = let l = c .before .before in (omega arith, omega arith, from-more _ _ (l .loop .i) _ _ (l .loop .inv .0) (l .loop .inv .2) (zero-test w32 _ refl refl (record { sfits = c .good2 .given })))
 
-returns-2 : tie.Need-returns-2 Inv-loop μ-loop
+returns : tie.Need-returns Inv-loop μ-loop
 unfolding values
-returns-2 c = let l = c .before .loop in sym (every-of _ 256 (λ j h. every-at _ (l .i) j (l .inv .0) (omega arith)))
+returns c = let e : c .before .loop .i ≡ 256 = omega arith in rw e at (c .before .loop .inv .2)
 
 pub values-spec : {M : Type 1} → statement M
 values-spec =
@@ -59,10 +48,9 @@ values-spec =
     Inv-loop
     μ-loop
     loop-holds
-    mul-if1
-    element-copy-out-if1
-    returns
+    mul-good
+    element-copy-out-good
     add-i
     loop-less
     loop-again
-    returns-2)
+    returns)

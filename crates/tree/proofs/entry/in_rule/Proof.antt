@@ -1,7 +1,6 @@
 -- `entry::in_rule` meets its contract: the count first, then the entries.
 use mathlib.Core.Path.{sym, _∙_}
 use native.Mathlib.Omega.{arith}
-use borrow.Author.Needs.{needs}
 use Rattle.tree.proofs.InRule.{none-fails, many-fail, within-bounds}
 use Rattle.tree.proofs.entry.in_rule.Statement.{statement}
 use Rattle.tree.proofs.entry.in_rule.Tie as tie
@@ -13,7 +12,7 @@ returns-2 : tie.Need-returns-2
 returns-2 c = sym (many-fail (c .before .before .args .parents .now) (c .before .before .args .count) (omega arith))
 
 entries-in-rule-requires : tie.Need-entries-in-rule-requires
-entries-in-rule-requires c κs = search needs
+entries-in-rule-requires c κs = (omega arith, omega arith)
 
 returns-3 : tie.Need-returns-3
 returns-3 c = c .entries-in-rule .ensures ∙ sym (within-bounds _ _ (omega arith) (omega arith))
