@@ -7,17 +7,15 @@ use Prim.Native.Nat.{ℕ, zero, suc, _+_, _≤_}
 use native.Mathlib.Nat.{suc-ne-zero}
 use native.Mathlib.Omega.{arith}
 use lib.IntN.{ℤ}
-use lib.ListN.{length, replicate, length-replicate}
+use lib.ListN.{length}
 use borrow.Author.Tests.{ne-eqb}
 use Rattle.tree.specs.Operation.{sum}
 use Rattle.messages.specs.Writing.{bitsOfAll, roomForAll}
-use Rattle.messages.specs.declared.Message.{Message}
 use Rattle.requests.specs.declared.Request.{Request}
 use Rattle.session.specs.Holding.{Typed}
 use Rattle.session.specs.Soundness.{sound, Sound}
 use Rattle.session.specs.declared.Session.{Session}
-use Rattle.mechanism.specs.Requests.{valued, combines, writes, linksOf, relinked, afterCombine, afterWrite, nodeOf, Small, says, after}
-use Rattle.mechanism.specs.Applying.{applied}
+use Rattle.mechanism.specs.Requests.{nodeOf, Small, says, after}
 use Rattle.mechanism.specs.Refusals.{allFit, refusalOf}
 use Rattle.mechanism.proofs.Few.{few-messages}
 use Rattle.mechanism.proofs.Fits.{messages-fit, never-misfit, sum-ranging}
@@ -26,7 +24,6 @@ use Rattle.trace.specs.declared.Logged.{Logged}
 use Rattle.trace.specs.declared.Logged.the-variants.{Next, Full}
 use Rattle.trace.proofs.Traced.{trace-holds}
 use Rattle.aggregate.specs.Serving.{refused, refusal, servedOf, logOf, earlyRefusal}
-use Rattle.aggregate.specs.Afters.{raisedOf}
 use Rattle.aggregate.proofs.Judging.{Ready, refused-before, by-room}
 
 -- an unsound session is refused with 6
@@ -70,15 +67,6 @@ module _ (s : Session) (r : Request) (log : List ℕ) (place : ℕ) where
             (rw (i, answers, counts, n, becomes), rw (logs, i, e))
         go false e = let d = rw e at told in let y : _≡_ {A = ℕ} 1 0 = cc in absurd (suc-ne-zero 0 y)
 
--- the session after, from the messages that were applied
-pub combined : (s t : Session) (x : ℕ) (ms : List Message) → ms ≡ combines sum s x .log → t ≡ relinked s (applied ms (linksOf s)) → raisedOf 2 t x ≡ afterCombine sum 2 s x
-unfolding afterCombine
-combined s t x ms e f = rw (f, e)
-
-pub written : (s v t : Session) (x : ℕ) (z : ℤ) (ms : List Message) → v ≡ valued s x z → ms ≡ writes sum s x z → t ≡ relinked v (applied ms (linksOf v)) → t ≡ afterWrite sum s x z
-unfolding afterWrite
-written s v t x z ms d e f = f ∙ rw (d, e)
-
 -- what was walked is what the request says, and it is fit for trace and log
 pub record Spoken (s : Session) (r : Request) (numbers : List ℕ) (len : ℕ) : Type 0 where
   pub holds : messagesOf numbers len ≡ says sum s r .log
@@ -86,10 +74,10 @@ pub record Spoken (s : Session) (r : Request) (numbers : List ℕ) (len : ℕ) :
   pub few : len ≤ 510
   pub fit : allFit (says sum s r .log) ≡ true
 
-pub spoken : (s : Session) (r : Request) (numbers : List ℕ) (len : ℕ) → Typed s → Small r → Ready s (nodeOf r)
-    → trace numbers len ≡ pushedAll (says sum s r .log) (trace (replicate 510 0) 0) → Spoken s r numbers len
-spoken s r numbers len typed small ready e =
+pub spoken : (s : Session) (r : Request) (ns numbers : List ℕ) (len : ℕ) → Typed s → Small r → Ready s (nodeOf r) → length ns ≡ 510
+    → trace numbers len ≡ pushedAll (says sum s r .log) (trace ns 0) → Spoken s r numbers len
+spoken s r ns numbers len typed small ready room e =
     let few = few-messages sum 2 s (ready .holds) r (ready .inside) .0 in
     let sized = messages-fit sum 2 sum-ranging s typed (ready .holds) r small (ready .inside) in
-    let h = trace-holds (says sum s r .log) (replicate 510 0) numbers len sized few (length-replicate {A = ℕ} 510 0) e in
+    let h = trace-holds (says sum s r .log) ns numbers len sized few room e in
     record { holds = h .1; long = h .0; few = omega (arith, few, h .0); fit = never-misfit (says sum s r .log) sized }

@@ -4,6 +4,7 @@ pub mod Paid
 pub mod Raising
 pub mod Judging
 pub mod Ending
+pub mod Acting
 pub mod Verdicts
 pub mod Logging
 pub mod Keeping

@@ -22,15 +22,15 @@ use Rattle.session.specs.Holding.{Typed}
 use Rattle.session.specs.Soundness.{Sound}
 use Rattle.session.specs.declared.Session.{Session}
 use Rattle.aggregate.specs.Serving.{logOf}
-use Rattle.aggregate.specs.Running.{Running, running, start, inTurn, stored, added, done, runs, listRefusal, endedAs, endOf}
+use Rattle.aggregate.specs.Running.{Running, running, start, inTurn, stored, added, done, runs, listRefusal, endOf}
 use Rattle.aggregate.specs.Turns.{Starting, Placed, Addable}
 use Rattle.aggregate.specs.declared.Served.{Served}
 use Rattle.aggregate.specs.declared.Totals.{Totals}
-use Rattle.aggregate.proofs.Verdicts.{logs-nothing}
+use Rattle.aggregate.proofs.Verdicts.{refuses, logs-nothing}
 use Rattle.aggregate.proofs.Logging.{length-kept, at-most-510}
 use Rattle.aggregate.proofs.Keeping.{sessions-sound}
 use Rattle.aggregate.proofs.Runs.{small, stored-length}
-use Rattle.aggregate.proofs.Wholly.{Ends, ends, runnable-by}
+use Rattle.aggregate.proofs.Wholly.{runnable-by}
 
 -- ---- what a list and a request of it bring
 
@@ -83,8 +83,8 @@ underway-first s list answers log place count first typed b =
     }
 
 module _ {s : Session} {list : List ℕ} {answers : List ℤ} {log : List ℕ} {place count at : ℕ} {o : Running} (u : Underway s list answers log place count at o) where
-  pub ends-all : count ≤ o .totals .requests → Ends s list answers log place (endedAs 0 (o .totals) (o .session)) (o .answers) (o .log)
-  ends-all h = ends s list answers log place (u .accepted) 0 o (go (u .due) (u .left) (u .same))
+  pub ends-all : count ≤ o .totals .requests → record { refusal = 0; reached = o } ≡ endOf s list answers log place
+  ends-all h = go (u .due) (u .left) (u .same)
     where
       go : (due : List Request) → o .totals .requests + length due ≡ count → runs due o ≡ endOf s list answers log place → record { refusal = 0; reached = o } ≡ endOf s list answers log place
       go [] l same = unfold runs in same
@@ -175,10 +175,11 @@ module _ {s : Session} {list : List ℕ} {answers : List ℤ} {log : List ℕ} {
 
       -- what it answered, and the log it left
       module _ {v : Served} {log' : List ℕ} (served : v ≡ inTurn r o) (logged : log' ≡ logOf (o .session) r (o .log) (o .totals .next)) where
-        pub ends-refused : v .outcome .refusal ≢ 0 → Ends s list answers log place (endedAs (v .outcome .refusal) (o .totals) (o .session)) (o .answers) log'
+        pub ends-refused : v .outcome .refusal ≢ 0 → record { refusal = v .outcome .refusal; reached = running (o .totals) (v .session) (o .answers) log' } ≡ endOf s list answers log place
         ends-refused d =
             let stay : inTurn r o .outcome .refusal ≢ 0 = rw served at d in
-            rw (served, logged, logs-nothing (o .session) r (o .log) (o .totals .next) (omega arith)) (ends s list answers log place (u .accepted) _ o (stops stay ∙ runs-now))
+            let kept : inTurn r o .session ≡ o .session = ap (λ (w : Served). w .session) (refuses (o .session) r (length (o .log)) (o .totals .next) (omega arith)) in
+            rw (served, logged, logs-nothing (o .session) r (o .log) (o .totals .next) (omega arith), kept) (stops stay ∙ runs-now)
 
         pub underway-next : v .outcome .refusal ≡ 0 → {k : ℕ} {t : Totals} {z : ℤ} {answers' : List ℤ} → k ≡ oneIfCombine r → t ≡ added k (v .outcome) (o .totals)
             → z ≡ v .outcome .answer → answers' ≡ stored r z (o .totals .answers) (o .answers) → Underway s list answers log place count next (running t (v .session) answers' log')

@@ -7,9 +7,7 @@ use lib.ListN.{getD, length}
 use Rattle.tree.specs.Parents.{parent, Grown}
 use Rattle.tree.specs.Sides.{pointsTo}
 use Rattle.session.specs.declared.Pairs.{Pairs}
-use Rattle.session.specs.declared.Session.{Session}
-use Rattle.mechanism.specs.Applying.{Links, raisedAt, raised}
-use Rattle.mechanism.specs.Requests.{linksOf}
+use Rattle.mechanism.specs.Applying.{Links, raisedAt}
 
 -- the pairs of a direction, and of both, by their arrays
 abbrev pub pairsOf : List ℕ → List ℤ → List ℕ → Pairs
@@ -37,14 +35,3 @@ upRaised ps n b x l = raisedAt n (λ i. pointsTo ps i (parent ps i) x) b l
 
 unfoldable pub downRaised : List ℕ → ℕ → ℕ → ℕ → List ℕ → List ℕ
 downRaised ps n b x l = raisedAt n (λ i. pointsTo ps (parent ps i) i x) b l
-
--- the session with every pair that points to x at b
-abbrev pub raisedOf : ℕ → Session → ℕ → Session
-raisedOf b s x =
-    record {
-      tree = s .tree;
-      values = s .values;
-      up = raised (s .tree .parents) (s .tree .count) b x (linksOf s) .up;
-      down = raised (s .tree .parents) (s .tree .count) b x (linksOf s) .down;
-      accepted = s .accepted;
-    }

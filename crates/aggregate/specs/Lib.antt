@@ -2,5 +2,6 @@
 pub mod Serving
 pub mod Running
 pub mod Afters
+pub mod Acts
 pub mod Turns
 pub mod Promises

@@ -13,11 +13,15 @@ use Rattle.session.specs.Soundness.{limit}
 use Rattle.session.specs.declared.Session.{Session}
 use Rattle.mechanism.specs.Requests.{nodeOf, says, after}
 use Rattle.mechanism.specs.Refusals.{refusalOf}
+use Rattle.aggregate.specs.declared.Outcome.{Outcome}
 use Rattle.aggregate.specs.declared.Served.{Served}
 
--- the number of a refusal and zeros, and the session as it came
+-- the number of a refusal and zeros, and with them the session as it came
+abbrev pub refusedOutcome : ℕ → Outcome
+refusedOutcome n = record { refusal = n; answer = pos 0; messages = 0; next = 0 }
+
 abbrev pub refused : ℕ → Session → Served
-refused n s = record { outcome = record { refusal = n; answer = pos 0; messages = 0; next = 0 }; session = s }
+refused n s = record { outcome = refusedOutcome n; session = s }
 
 -- the answer, the messages and the next log place, and the session after
 abbrev pub accepted : ℤ → List Message → ℕ → Session → Served

@@ -2,11 +2,12 @@
 use mathlib.Core.Path.{_≡_}
 use mathlib.Core.List.{List}
 use Prim.Native.Nat.{ℕ, _*_, _<_, _≤_}
+use lib.IntN.{ℤ}
 use Rattle.requests.specs.Reading.{judgedOf}
 use Rattle.requests.specs.declared.Request.{Request}
 use Rattle.requests.specs.declared.Request.the-variants.{Combine, Write}
 use Rattle.session.specs.declared.Session.{Session}
-use Rattle.aggregate.specs.Running.{listRefusal}
+use Rattle.aggregate.specs.Running.{listRefusal, Ended, running}
 use Rattle.aggregate.specs.declared.Outcome.{Outcome}
 use Rattle.aggregate.specs.declared.Totals.{Totals}
 
@@ -28,3 +29,7 @@ pub record Addable (t : Totals) (k : ℕ) (o : Outcome) : Type 0 where
   pub one : k ≤ 1
   pub messages-few : t .messages ≤ 510 * t .requests
   pub at-most-510 : o .messages ≤ 510
+
+-- a refusal, 0 for none, and how far the requests came
+abbrev pub endedBy : ℕ → Totals → Session → List ℤ → List ℕ → Ended
+endedBy n t s answers log = record { refusal = n; reached = running t s answers log }

@@ -2,57 +2,13 @@
 use crate::reads;
 ghost use mathlib.Core.Path.{_≡_};
 ghost use Prim.Native.Nat.{_-_, _<_, _≤_};
-ghost use Rattle.session.specs.Soundness.{Sound, limit};
 ghost use Rattle.mechanism.specs.Applying as spec;
-ghost use Rattle.mechanism.specs.Requests.{linksOf, relinked};
 ghost use Rattle.trace.specs.Traces.{messagesOf};
 ghost use Rattle.aggregate.specs.Afters.{pairsOf, linksBy, Counts};
 use messages::Message;
-use session::Pairs;
-use session::Session;
-
-// The session after the first len messages, and one more request accepted.
-pub fn applied(session: Session, trace: &[u64; 510], len: usize) -> Session
-    requires { ⌜ (len ≤ 510) × (Sound 2 session × (session .accepted < limit)) ⌝ }
-    ensures { λ r. ⌜ r ≡ relinked session (spec.applied (messagesOf (now (trace .entry)) len) (linksOf session)) ⌝ }
-{
-    let mut session = session;
-    let up = session.up;
-    let down = session.down;
-    let mut up_lease = up.lease;
-    let mut up_cache = up.cache;
-    let mut up_messages = up.messages;
-    let mut down_lease = down.lease;
-    let mut down_cache = down.cache;
-    let mut down_messages = down.messages;
-    apply(
-        trace,
-        len,
-        &mut up_lease,
-        &mut up_cache,
-        &mut up_messages,
-        &mut down_lease,
-        &mut down_cache,
-        &mut down_messages,
-    );
-    let up = Pairs {
-        lease: up_lease,
-        cache: up_cache,
-        messages: up_messages,
-    };
-    let down = Pairs {
-        lease: down_lease,
-        cache: down_cache,
-        messages: down_messages,
-    };
-    session.up = up;
-    session.down = down;
-    session.accepted = session.accepted + 1;
-    session
-}
 
 // The first len messages, each at its pair.
-fn apply(
+pub fn apply(
     trace: &[u64; 510],
     len: usize,
     up_lease: &mut [u8; 256],

@@ -1,16 +1,10 @@
 // The walk of a combine: reads a session's arrays, and adds messages to a lent trace.
 use crate::links;
 use crate::reads;
-ghost use mathlib.Core.Path.{_≡_};
-ghost use Prim.Native.Nat.{_<_};
-ghost use Rattle.tree.specs.Operation as operation;
-ghost use Rattle.session.specs.Soundness.{Sound};
 ghost use Rattle.mechanism.specs.Views.{viewOf};
-ghost use Rattle.mechanism.specs.Requests.{combines};
 ghost use Rattle.trace.specs.Traces as traces;
 ghost use Rattle.walk.specs.Asking.{Asking, Visiting, Told, Visited};
 use messages::Message;
-use session::Session;
 
 // A walk's sum, and the length of the trace after it.
 #[repr(C)]
@@ -19,33 +13,8 @@ pub struct Asked {
     pub len: usize,
 }
 
-// The walk of a combine at x, from an empty trace.
-pub fn from(session: Session, x: usize, trace: &mut [u64; 510]) -> Asked
-    requires { ⌜ Sound 2 session × (x < session .tree .count) ⌝ }
-    ensures { λ r. ⌜ (r .sum ≡ combines operation.sum session x .sum) × (traces.trace (now (trace .exit)) (r .len) ≡ traces.pushedAll (combines operation.sum session x .log) (traces.trace (now (trace .entry)) 0)) ⌝ }
-{
-    let count = session.tree.count as usize;
-    let links = links::of(session.tree.count, &session.tree.parents);
-    ask(
-        count,
-        &session.tree.parents,
-        &links.first,
-        &links.next,
-        &session.values,
-        &session.up.lease,
-        &session.up.cache,
-        &session.down.lease,
-        &session.down.cache,
-        trace,
-        0,
-        x,
-        x,
-        count,
-    )
-}
-
 // u, come from a neighbour or from nowhere, asks its other neighbours in turn.
-fn ask<'a>(
+pub fn ask<'a>(
     count: usize,
     parents: &'a [u8; 256],
     first: &'a [u16; 256],

@@ -3,14 +3,16 @@
 // Every public function takes whatever it is handed and has one outcome. A refused call answers its
 // number and zeros, and leaves the session and all lent memory as they were; a list that stops midway
 // keeps what its earlier requests did.
+mod act; // what a combine and a write do in their turn
 mod apply; // what messages make of a session
 mod ask; // the walk of a combine
 mod judge; // what a refused request answers
 mod later; // what comes after each neighbour
 mod links; // each node's neighbours, one after the other
+mod parts; // a session made of its parts
 mod raise; // a combine raises every pair that points to its node
 mod reads; // what the walks read of a session
-mod serve; // one request to a session that is sound
+mod serve; // one request, served in place
 mod spread; // the walk of a write
 mod turns; // the requests of a list, each in its turn
 
@@ -19,6 +21,7 @@ ghost use lib.ListN.{length};
 ghost use Rattle.requests.specs.declared.Request.the-variants.{Combine, Write};
 ghost use Rattle.aggregate.specs.Serving.{servedOf, logOf};
 ghost use Rattle.aggregate.specs.Running.{ranOf, answersOf, runLogOf};
+use act::Act;
 use session::Session;
 
 // What a request answers: 0, the answer (0 for a write), its messages and the next log place; or the
@@ -64,20 +67,14 @@ pub struct Ran {
 pub fn combine(session: Session, x: usize, log: &mut [u8], place: usize) -> Served
     ensures { λ r. ⌜ (r ≡ servedOf session (Combine x) (length (now (log .entry))) place) × (now (log .exit) ≡ logOf session (Combine x) (now (log .entry)) place) ⌝ }
 {
-    if !session.is_sound() {
-        return judge::refused(6, session);
-    }
-    serve::combined(session, x, log, place)
+    serve::whole(session, x, Act::Combine, log, place)
 }
 
 // A write of a value at node x, logged from place on. Refusals: as for a combine.
 pub fn write(session: Session, x: usize, value: i32, log: &mut [u8], place: usize) -> Served
     ensures { λ r. ⌜ (r ≡ servedOf session (Write x value) (length (now (log .entry))) place) × (now (log .exit) ≡ logOf session (Write x value) (now (log .entry)) place) ⌝ }
 {
-    if !session.is_sound() {
-        return judge::refused(6, session);
-    }
-    serve::written(session, x, value, log, place)
+    serve::whole(session, x, Act::Write(value), log, place)
 }
 
 // The requests of a list, each logged where the one before ended, the answers of combines one behind
@@ -101,7 +98,7 @@ pub fn run(session: Session, list: &[u8], answers: &mut [i64], log: &mut [u8], p
     if !sound {
         return turns::refused(6, session);
     }
-    turns::each(
+    turns::whole(
         session,
         list,
         judged.requests,

@@ -1,90 +1,210 @@
-// One request to a session that is sound.
+// One request, served in place: in the parts of a session.
 use crate::Outcome;
 use crate::Served;
+use crate::act;
+use crate::act::Act;
 use crate::apply;
-use crate::ask;
 use crate::judge;
-use crate::raise;
-use crate::reads;
-use crate::spread;
+use crate::links;
+use crate::parts;
 ghost use mathlib.Core.Path.{_≡_};
-ghost use Prim.Native.Nat.{_<_};
 ghost use lib.ListN.{length};
-ghost use Rattle.requests.specs.declared.Request.the-variants.{Combine, Write};
-ghost use Rattle.session.specs.Soundness.{Sound};
-ghost use Rattle.mechanism.specs.Requests.{valued as valuedBy};
+ghost use Rattle.session.specs.Holding.{Typed};
+ghost use Rattle.session.specs.Parts.{sessionBy};
 ghost use Rattle.aggregate.specs.Serving.{servedOf, logOf};
-use requests::Request;
+ghost use Rattle.aggregate.specs.Acts.{requestAt, servedAs, Servable};
 use session::Session;
 use trace::Logged;
 
-// A request of a list.
-pub fn request(session: Session, request: Request, log: &mut [u8], place: usize) -> Served
-    requires { ⌜ Sound 2 session ⌝ }
-    ensures { λ r. ⌜ (r ≡ servedOf session request (length (now (log .entry))) place) × (now (log .exit) ≡ logOf session request (now (log .entry)) place) ⌝ }
+// A request to any session: taken apart once, and put together once, whatever comes of it.
+pub fn whole(session: Session, x: usize, act: Act, log: &mut [u8], place: usize) -> Served
+    ensures { λ r. ⌜ (r ≡ servedOf session (requestAt x act) (length (now (log .entry))) place) × (now (log .exit) ≡ logOf session (requestAt x act) (now (log .entry)) place) ⌝ }
 {
-    match request {
-        Request::Combine(x) => combined(session, reads::node(x), log, place),
-        Request::Write(x, value) => written(session, reads::node(x), value, log, place),
-    }
-}
-
-// A combine at x.
-pub fn combined(session: Session, x: usize, log: &mut [u8], place: usize) -> Served
-    requires { ⌜ Sound 2 session ⌝ }
-    ensures { λ r. ⌜ (r ≡ servedOf session (Combine x) (length (now (log .entry))) place) × (now (log .exit) ≡ logOf session (Combine x) (now (log .entry)) place) ⌝ }
-{
-    let refusal = judge::early_refusal(session.tree.count, session.accepted, x);
-    if refusal != 0 {
-        return judge::refused(refusal, session);
-    }
-    let mut trace = [0u64; 510];
-    let asked = ask::from(session, x, &mut trace);
-    let Logged::Next(next) = trace::log(log, place, &trace, asked.len) else {
-        return judge::refused(9, session);
-    };
+    let tree = session.tree;
+    let count = tree.count;
+    let parents = tree.parents;
+    let mut values = session.values;
+    let up = session.up;
+    let mut up_lease = up.lease;
+    let mut up_cache = up.cache;
+    let mut up_messages = up.messages;
+    let down = session.down;
+    let mut down_lease = down.lease;
+    let mut down_cache = down.cache;
+    let mut down_messages = down.messages;
+    let mut accepted = session.accepted;
+    let outcome = tested(
+        count,
+        &parents,
+        &mut values,
+        &mut up_lease,
+        &mut up_cache,
+        &mut up_messages,
+        &mut down_lease,
+        &mut down_cache,
+        &mut down_messages,
+        &mut accepted,
+        x,
+        act,
+        log,
+        place,
+    );
     Served {
-        outcome: Outcome {
-            refusal: 0,
-            answer: asked.sum,
-            messages: asked.len as u32,
-            next,
-        },
-        session: raise::raised(apply::applied(session, &trace, asked.len), x),
+        outcome,
+        session: parts::joined(
+            count,
+            &parents,
+            &values,
+            &up_lease,
+            &up_cache,
+            &up_messages,
+            &down_lease,
+            &down_cache,
+            &down_messages,
+            accepted,
+        ),
     }
 }
 
-// A write of a value at x.
-pub fn written(session: Session, x: usize, value: i32, log: &mut [u8], place: usize) -> Served
-    requires { ⌜ Sound 2 session ⌝ }
-    ensures { λ r. ⌜ (r ≡ servedOf session (Write x value) (length (now (log .entry))) place) × (now (log .exit) ≡ logOf session (Write x value) (now (log .entry)) place) ⌝ }
+// A request to any parts of the right size: 6 where they are unsound.
+fn tested(
+    count: u16,
+    parents: &[u8; 256],
+    values: &mut [i32; 256],
+    up_lease: &mut [u8; 256],
+    up_cache: &mut [i64; 256],
+    up_messages: &mut [u32; 256],
+    down_lease: &mut [u8; 256],
+    down_cache: &mut [i64; 256],
+    down_messages: &mut [u32; 256],
+    accepted: &mut u32,
+    x: usize,
+    act: Act,
+    log: &mut [u8],
+    place: usize,
+) -> Outcome
+    requires { ⌜ Typed (sessionBy count (now parents) (now values) (now «up_lease») (now «up_cache») (now «up_messages») (now «down_lease») (now «down_cache») (now «down_messages») (now accepted)) ⌝ }
+    ensures { λ r.
+        ⌜ (servedAs r (sessionBy count (now (parents .exit)) (now (values .exit)) (now («up_lease» .exit)) (now («up_cache» .exit)) (now («up_messages» .exit)) (now («down_lease» .exit)) (now («down_cache» .exit)) (now («down_messages» .exit)) (now (accepted .exit)))
+        ≡ servedOf (sessionBy count (now (parents .entry)) (now (values .entry)) (now («up_lease» .entry)) (now («up_cache» .entry)) (now («up_messages» .entry)) (now («down_lease» .entry)) (now («down_cache» .entry)) (now («down_messages» .entry)) (now (accepted .entry))) (requestAt x act) (length (now (log .entry))) place)
+        × (now (log .exit)
+        ≡ logOf (sessionBy count (now (parents .entry)) (now (values .entry)) (now («up_lease» .entry)) (now («up_cache» .entry)) (now («up_messages» .entry)) (now («down_lease» .entry)) (now («down_cache» .entry)) (now («down_messages» .entry)) (now (accepted .entry))) (requestAt x act) (now (log .entry)) place) ⌝ }
 {
-    let refusal = judge::early_refusal(session.tree.count, session.accepted, x);
-    if refusal != 0 {
-        return judge::refused(refusal, session);
+    let sound = session::parts_are_sound(
+        count,
+        parents,
+        values,
+        up_lease,
+        up_cache,
+        up_messages,
+        down_lease,
+        down_cache,
+        down_messages,
+        *accepted,
+    );
+    if !sound {
+        return judge::refused(6);
     }
+    let links = links::of(count, parents);
+    let mut later_up = [0i64; 256];
+    let mut later_down = [0i64; 256];
     let mut trace = [0u64; 510];
-    let len = spread::from(session, x, value, &mut trace);
-    let Logged::Next(next) = trace::log(log, place, &trace, len) else {
-        return judge::refused(9, session);
-    };
-    Served {
-        outcome: Outcome {
-            refusal: 0,
-            answer: 0,
-            messages: len as u32,
-            next,
-        },
-        session: apply::applied(valued(session, x, value), &trace, len),
-    }
+    request(
+        count,
+        parents,
+        &links.first,
+        &links.next,
+        values,
+        up_lease,
+        up_cache,
+        up_messages,
+        down_lease,
+        down_cache,
+        down_messages,
+        accepted,
+        &mut later_up,
+        &mut later_down,
+        &mut trace,
+        x,
+        act,
+        log,
+        place,
+    )
 }
 
-// The session with a new value at x.
-fn valued(session: Session, x: usize, value: i32) -> Session
-    requires { ⌜ x < 256 ⌝ }
-    ensures { λ r. ⌜ r ≡ valuedBy session x value ⌝ }
+// A request to sound parts, whose tree has these links. What it needs besides is lent too: room for
+// what comes after each neighbour, and for its messages.
+pub fn request<'a>(
+    count: u16,
+    parents: &'a [u8; 256],
+    first: &'a [u16; 256],
+    next: &'a [u16; 256],
+    values: &mut [i32; 256],
+    up_lease: &mut [u8; 256],
+    up_cache: &mut [i64; 256],
+    up_messages: &mut [u32; 256],
+    down_lease: &mut [u8; 256],
+    down_cache: &mut [i64; 256],
+    down_messages: &mut [u32; 256],
+    accepted: &mut u32,
+    later_up: &mut [i64; 256],
+    later_down: &mut [i64; 256],
+    trace: &mut [u64; 510],
+    x: usize,
+    act: Act,
+    log: &mut [u8],
+    place: usize,
+) -> Outcome
+    requires { ⌜ Servable (sessionBy count (now parents) (now values) (now «up_lease») (now «up_cache») (now «up_messages») (now «down_lease») (now «down_cache») (now «down_messages») (now accepted)) (now first) (now next) ⌝ }
+    ensures { λ r.
+        ⌜ (servedAs r (sessionBy count (now (parents .exit)) (now (values .exit)) (now («up_lease» .exit)) (now («up_cache» .exit)) (now («up_messages» .exit)) (now («down_lease» .exit)) (now («down_cache» .exit)) (now («down_messages» .exit)) (now (accepted .exit)))
+        ≡ servedOf (sessionBy count (now (parents .entry)) (now (values .entry)) (now («up_lease» .entry)) (now («up_cache» .entry)) (now («up_messages» .entry)) (now («down_lease» .entry)) (now («down_cache» .entry)) (now («down_messages» .entry)) (now (accepted .entry))) (requestAt x act) (length (now (log .entry))) place)
+        × (now (log .exit)
+        ≡ logOf (sessionBy count (now (parents .entry)) (now (values .entry)) (now («up_lease» .entry)) (now («up_cache» .entry)) (now («up_messages» .entry)) (now («down_lease» .entry)) (now («down_cache» .entry)) (now («down_messages» .entry)) (now (accepted .entry))) (requestAt x act) (now (log .entry)) place) ⌝ }
 {
-    let mut session = session;
-    session.values[x] = value;
-    session
+    let refusal = judge::early_refusal(count, *accepted, x);
+    if refusal != 0 {
+        return judge::refused(refusal);
+    }
+    let held = values[x];
+    act::begin(act, x, values);
+    let asked = act::walk(
+        act,
+        count as usize,
+        parents,
+        first,
+        next,
+        values,
+        up_lease,
+        up_cache,
+        down_lease,
+        down_cache,
+        later_up,
+        later_down,
+        trace,
+        x,
+    );
+    let len = asked.len;
+    let Logged::Next(end) = trace::log(log, place, trace, len) else {
+        values[x] = held;
+        return judge::refused(9);
+    };
+    apply::apply(
+        trace,
+        len,
+        up_lease,
+        up_cache,
+        up_messages,
+        down_lease,
+        down_cache,
+        down_messages,
+    );
+    act::settle(act, count as usize, parents, x, up_lease, down_lease);
+    *accepted = *accepted + 1;
+    Outcome {
+        refusal: 0,
+        answer: asked.sum,
+        messages: len as u32,
+        next: end,
+    }
 }

@@ -4,47 +4,66 @@ use crate::later;
 use crate::links;
 use crate::reads;
 ghost use mathlib.Core.Path.{_≡_};
-ghost use Prim.Native.Nat.{_<_};
+ghost use mathlib.Core.Bool.{true};
+ghost use Prim.Native.Nat.{_<_, _≤_};
 ghost use Rattle.tree.specs.Operation as operation;
-ghost use Rattle.session.specs.Soundness.{Sound};
+ghost use Rattle.session.specs.Holding.{pairAt};
 ghost use Rattle.mechanism.specs.Views.{viewOf};
-ghost use Rattle.mechanism.specs.Requests.{writes};
+ghost use Rattle.mechanism.specs.Spreading.{write};
 ghost use Rattle.trace.specs.Traces as traces;
-ghost use Rattle.walk.specs.Telling.{Spreading, Telling, Spread, Told};
+ghost use Rattle.walk.specs.Links.{Linked};
+ghost use Rattle.walk.specs.Telling.{SilentUpTo, Spreading, Telling, Spread, Told};
+ghost use Rattle.aggregate.specs.Acts.{Walkable};
 use messages::Message;
-use session::Session;
 
-// The walk of a write of a value at x, from an empty trace.
-pub fn from(session: Session, x: usize, value: i32, trace: &mut [u64; 510]) -> usize
-    requires { ⌜ Sound 2 session × (x < session .tree .count) ⌝ }
-    ensures { λ r. ⌜ traces.trace (now (trace .exit)) r ≡ traces.pushedAll (writes operation.sum session x value) (traces.trace (now (trace .entry)) 0) ⌝ }
+// The walk of a write at x, whose value is set, from an empty trace.
+pub fn from<'a>(
+    count: usize,
+    parents: &'a [u8; 256],
+    first: &'a [u16; 256],
+    next: &'a [u16; 256],
+    values: &'a [i32; 256],
+    up_lease: &'a [u8; 256],
+    up_cache: &'a [i64; 256],
+    down_lease: &'a [u8; 256],
+    down_cache: &'a [i64; 256],
+    later_up: &mut [i64; 256],
+    later_down: &mut [i64; 256],
+    trace: &mut [u64; 510],
+    x: usize,
+) -> usize
+    requires { ⌜ Walkable (viewOf count (now parents) (now values) (now «up_lease») (now «up_cache») (now «down_lease») (now «down_cache»)) (now first) (now next) x ⌝ }
+    ensures { λ r.
+        ⌜ traces.trace (now (trace .exit)) r
+        ≡ traces.pushedAll (write operation.sum (viewOf count (now (parents .entry)) (now (values .entry)) (now («up_lease» .entry)) (now («up_cache» .entry)) (now («down_lease» .entry)) (now («down_cache» .entry))) x) (traces.trace (now (trace .entry)) 0) ⌝ }
 {
-    let count = session.tree.count as usize;
-    let mut values = session.values;
-    values[x] = value;
-    let links = links::of(session.tree.count, &session.tree.parents);
-    let later = later::of(
+    if is_silent(count, parents, first, next, up_lease, down_lease, x) {
+        return 0;
+    }
+    later::of(
         count,
-        &session.tree.parents,
-        &values,
-        &session.up.lease,
-        &session.up.cache,
-        &session.down.lease,
-        &session.down.cache,
+        parents,
+        values,
+        up_lease,
+        up_cache,
+        down_lease,
+        down_cache,
         x,
+        later_up,
+        later_down,
     );
     spread(
         count,
-        &session.tree.parents,
-        &links.first,
-        &links.next,
-        &values,
-        &session.up.lease,
-        &session.up.cache,
-        &session.down.lease,
-        &session.down.cache,
-        &later.up,
-        &later.down,
+        parents,
+        first,
+        next,
+        values,
+        up_lease,
+        up_cache,
+        down_lease,
+        down_cache,
+        later_up,
+        later_down,
         trace,
         0,
         x,
@@ -52,6 +71,30 @@ pub fn from(session: Session, x: usize, value: i32, trace: &mut [u64; 510]) -> u
         0,
         count,
     )
+}
+
+// Whether no neighbour of x holds a lease, so that x tells nobody.
+fn is_silent<'a>(
+    count: usize,
+    parents: &'a [u8; 256],
+    first: &'a [u16; 256],
+    next: &'a [u16; 256],
+    up_lease: &'a [u8; 256],
+    down_lease: &'a [u8; 256],
+    x: usize,
+) -> bool
+    requires { ⌜ (x < count) × ((count ≤ 256) × Linked count (now parents) (now first) (now next)) ⌝ }
+    ensures { λ r. ⌜ (r ≡ true → SilentUpTo count (now (parents .entry)) (pairAt 0 (now («up_lease» .entry)) (now («down_lease» .entry))) x count) ⌝ }
+{
+    let mut k = links::first(count, parents, first, next, x);
+    while k < count {
+        let w = links::turn(count, x, k);
+        if reads::lease(up_lease, down_lease, x, w) != 0 {
+            return false;
+        }
+        k = links::next(count, parents, first, next, x, k);
+    }
+    true
 }
 
 // u, told by a neighbour or by nobody, tells its other neighbours in turn.

@@ -1,11 +1,14 @@
 -- The values of a session with z as the value of x.
 use mathlib.Core.Path.{_≡_, _∙_}
+use mathlib.Core.Bool.{true}
 use mathlib.Core.Logic.{_≢_}
 use Prim.Native.Nat.{ℕ, _<_}
 use native.Mathlib.Decide.{ℕ-discrete}
 use native.Mathlib.Omega.{arith}
 use lib.IntN.{ℤ, pos}
+use lib.ListN.{length-set}
 use lib.Seq.{getD-set-same, getD-set-other}
+use Rattle.twos.specs.Twos.{within}
 use Rattle.tree.proofs.Cases.{either}
 use Rattle.session.specs.Holding.{valueOf, Typed}
 use Rattle.session.specs.Soundness.{Sound}
@@ -34,4 +37,14 @@ valued-sound s x z i h =
       paid = i .paid;
       no-pairs = i .no-pairs;
       no-values = λ j l m. valued-off s x z j (omega arith) ∙ i .no-values j l m;
+    }
+
+pub valued-typed : (s : Session) (x : ℕ) (z : ℤ) → Typed s → x < 256 → within 32 z ≡ true → Typed (valued s x z)
+valued-typed s x z t h small =
+    record {
+      parents-long = t .parents-long;
+      values-long = rw length-set (t .values-long);
+      values-small = valued-has s x z (λ v. within 32 v ≡ true) t h small (t .values-small);
+      up-long = t .up-long;
+      down-long = t .down-long;
     }

@@ -13,3 +13,4 @@ pub mod Reaching
 pub mod Coming
 pub mod Sends
 pub mod Starting
+pub mod Silence

@@ -8,7 +8,7 @@ use native.Mathlib.Nat.{add-zero, le-refl}
 use native.Mathlib.Decide.{ℕ-discrete}
 use native.Mathlib.Omega.{arith}
 use lib.IntN.{ℤ, pos, _+ℤ_}
-use lib.ListN.{getD, set, length, length-set, replicate, length-replicate, getD-replicate}
+use lib.ListN.{getD, set, length, length-set}
 use lib.Seq.{getD-set-same, getD-set-other}
 use mir.Syntax.{w64}
 use mir.Val.{SFits}
@@ -23,7 +23,7 @@ use Rattle.session.specs.Holding.{pairAt}
 use Rattle.mechanism.specs.Views.{View}
 use Rattle.mechanism.specs.Spreading.{addIf}
 use Rattle.tree.proofs.Children.{child-is}
-use Rattle.walk.specs.Laters.{known, away, later, Passing, Passed}
+use Rattle.walk.specs.Laters.{known, away, later, Passing, Passed, Cleared}
 use Rattle.walk.proofs.Neighbours.{near-below, near-self, near-above}
 use Rattle.walk.proofs.Ways.{Ahead, ahead-none, on-way, off-way, ahead-on, ahead-off}
 
@@ -96,15 +96,28 @@ later-none : (q : View) (x u m : ℕ) → m ≡ 0 → later q x u m ≡ pos 0
 unfolding later
 later-none q x u m e = rw e
 
-pub passes-none : {q : View} {x : ℕ} → Passing q x → Passes q x (replicate 256 (pos 0)) (replicate 256 (pos 0)) x (q .count)
-passes-none {q} {x} h =
+-- one more place is cleared
+pub cleared-none : {l : List ℤ} → length l ≡ 256 → Cleared 0 l
+cleared-none long = record { long = long; zeros = λ u h. absurd (omega arith) }
+
+pub cleared-next : {l : List ℤ} {u : ℕ} → Cleared u l → u < 256 → Cleared (u + 1) (set l u (pos 0))
+cleared-next {l} {u} c h =
+    record {
+      long = rw length-set (c .long);
+      zeros = λ v m. either (ℕ-discrete v u)
+          (λ e. rw e (getD-set-same l u (pos 0) (pos 0) (omega (arith, c .long))))
+          (λ d. getD-set-other l u v (pos 0) (pos 0) d ∙ c .zeros v (omega arith));
+    }
+
+pub passes-none : {q : View} {x : ℕ} {up down : List ℤ} → Passing q x → Cleared (q .count) up → length down ≡ 256 → Passes q x up down x (q .count)
+passes-none {q} {x} h c long =
     record {
       low = omega (arith, h .inside);
       high = le-refl (q .count);
-      up-room = length-replicate 256 (pos 0);
-      down-room = length-replicate 256 (pos 0);
+      up-room = c .long;
+      down-room = long;
       ahead = ahead-none (h .inside);
-      rising = λ u l. getD-replicate 256 u (pos 0) (pos 0) (omega (arith, h .room)) ∙ sym (later-none q x u (q .count - q .count) (omega arith));
+      rising = λ u l. c .zeros u l ∙ sym (later-none q x u (q .count - q .count) (omega arith));
       risen = λ u l m. absurd (omega arith);
       kept = λ w l m. absurd (omega arith);
     }

@@ -1,33 +1,26 @@
--- A write's walk can start at any node of a sound session, with a new value there.
-use mathlib.Core.Path.{_≡_}
-use mathlib.Core.Bool.{true}
+-- A write's walk can start at any node of a sound session.
 use mathlib.Core.List.{List}
 use Prim.Native.Nat.{ℕ, _<_}
 use native.Mathlib.Nat.{le-refl}
-use native.Mathlib.Omega.{arith}
 use lib.IntN.{ℤ, pos}
-use Rattle.twos.specs.Twos.{within}
-use Rattle.tree.specs.Ranges.{Range}
 use Rattle.tree.proofs.Ranges.{range-of-one}
 use Rattle.session.specs.Holding.{valueOf, Typed}
 use Rattle.session.specs.Soundness.{Sound}
 use Rattle.session.specs.declared.Session.{Session}
 use Rattle.mechanism.specs.Views.{View, view}
-use Rattle.mechanism.specs.Requests.{valued}
-use Rattle.mechanism.proofs.Valued.{valued-has}
 use Rattle.walk.specs.Links.{Linked}
 use Rattle.walk.specs.Laters.{later, Passing, Passed}
 use Rattle.walk.specs.Telling.{Steady, Spreading}
 use Rattle.walk.proofs.Reaching.{range-wide, later-in}
 use Rattle.walk.proofs.Coming.{come-first}
 
-pub valued-steady : (b : ℕ) (s : Session) (x : ℕ) (z : ℤ) → Typed s → Sound b s → x < s .tree .count → within 32 z ≡ true → Steady (view (valued s x z))
-valued-steady b s x z typed i hx small =
+pub sound-steady : (b : ℕ) (s : Session) → Typed s → Sound b s → Steady (view s)
+sound-steady b s typed i =
     record {
       room = i .tree-in-rule .few;
       grown = i .tree-in-rule .grown;
       ordered = i .ordered;
-      values-in = valued-has s x z (Range 1) typed (omega (arith, i .tree-in-rule .few)) (range-of-one z .1 small) (λ u. range-of-one (valueOf s u) .1 (typed .values-small u));
+      values-in = λ u. range-of-one (valueOf s u) .1 (typed .values-small u);
       caches-in = λ u v hu hv a d. i .caches-in u v hu hv a;
     }
 

@@ -5,6 +5,7 @@ use mathlib.Core.List.{List}
 use Prim.Native.Nat.{ℕ, zero, suc, _-_, _<_, _≤_}
 use lib.Dec.{eqb}
 use lib.IntN.{ℤ, pos}
+use lib.ListN.{getD, length}
 use mir.Syntax.{w64}
 use mir.Val.{SFits}
 use Rattle.tree.specs.Operation.{sum}
@@ -38,6 +39,11 @@ pub record Passing (q : View) (x : ℕ) : Type 0 where
   pub inside : x < q .count
   pub grown : Grown (q .parents) (q .count)
   pub fits : (u m : ℕ) → u < q .count → m ≤ q .count → SFits w64 (later q x u m)
+
+-- room for 256 nodes, with zeros for n of them
+pub record Cleared (n : ℕ) (l : List ℤ) : Type 0 where
+  pub long : length l ≡ 256
+  pub zeros : (u : ℕ) → u < n → getD l u (pos 0) ≡ pos 0
 
 -- for u and its neighbour at place k stands what u knows of those after it
 pub record Passed (q : View) (x : ℕ) (up down : List ℤ) : Type 0 where

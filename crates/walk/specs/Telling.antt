@@ -16,7 +16,7 @@ use Rattle.session.specs.Soundness.{Ordered}
 use Rattle.mechanism.specs.Views.{View}
 use Rattle.mechanism.specs.Spreading.{addIf, sends, spread}
 use Rattle.trace.specs.Traces.{Trace, pushedAll}
-use Rattle.walk.specs.Links.{Linked}
+use Rattle.walk.specs.Links.{Linked, neighbourAt}
 use Rattle.walk.specs.Laters.{known, Passed}
 
 -- a view on which a write's walk can go: values and leased caches are in range, and neighbouring numbers in order
@@ -26,6 +26,10 @@ pub record Steady (q : View) : Type 0 where
   pub ordered : Ordered (q .parents) (q .count) (q .lease)
   pub values-in : (u : ℕ) → Range 1 (q .value u)
   pub caches-in : (u v : ℕ) → u < q .count → v < q .count → adjacent (q .parents) v u ≡ true → q .lease u v ≢ 0 → Range (size (q .parents) (q .count) u v) (q .cache u v)
+
+-- no neighbour among the first k candidates of x holds a lease
+pub record SilentUpTo (n : ℕ) (ps : List ℕ) (lease : ℕ → ℕ → ℕ) (x k : ℕ) : Type 0 where
+  pub none : (j : ℕ) → j < k → neighbourAt n ps x j ≡ true → lease x (turn n x j) ≡ 0
 
 -- u was told z by v, beyond which x is; or by nobody, where u is x
 pub record Come (q : View) (x u v : ℕ) (z : ℤ) : Type 0 where

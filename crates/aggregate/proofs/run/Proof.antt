@@ -45,8 +45,8 @@ returns-3 c =
     let e = ends-unsound (s .args .session) (s .args .list .now) (s .args .answers .now) (s .args .log .now) (s .args .place) (j .judge .result) (j .judge .ensures) (p .if1 .left) (i .before .if2 .left) (sym (i .is-sound .ensures) ∙ not-true _ (c .before .if3 .taken)) in
     (c .refused3 .ensures ∙ e .0, e .1, e .2)
 
-each-requires : tie.Need-each-requires
-each-requires c κs =
+whole-requires : tie.Need-whole-requires
+whole-requires c κs =
     let i = c .before .before .before in
     let p = i .before .before .before in
     let j = p .before .before in
@@ -74,7 +74,7 @@ run-spec =
     is-sound-requires
     refused-requires-3
     returns-3
-    each-requires
+    whole-requires
     same-length
     same-length-2
     returns-4)

@@ -28,13 +28,16 @@ module _ (c : tie.After-down Inv-loop μ-loop) where
   abbrev loop : tie.At-loop Inv-loop μ-loop
   loop = c .before .before .before .before
 
+  abbrev start : tie.Start Inv-loop μ-loop
+  start = loop .before .before .before .before .before
+
   abbrev view : View
   view =
-      let a = loop .before .args in
+      let a = start .args in
       viewOf (a .count) (a .parents .now) (a .values .now) (a .up-lease .now) (a .up-cache .now) (a .down-lease .now) (a .down-cache .now)
 
-  turning : Turning view (loop .before .args .x) (loop .loop .up) (loop .loop .down) (loop .loop .at) (loop .loop .i) (loop .loop .i - 1) (c .before .node .result)
-  turning = record { passing = loop .before .pre; before = loop .loop .inv; next = omega arith; some = omega arith; is = c .before .node .ensures .0 }
+  turning : Turning view (start .args .x) (loop .loop .up) (loop .loop .down) (loop .loop .at) (loop .loop .i) (loop .loop .i - 1) (c .before .node .result)
+  turning = record { passing = start .pre; before = loop .loop .inv; next = omega arith; some = omega arith; is = c .before .node .ensures .0 }
 
   held : toZ w64 (ofZ w64 (getD (loop .loop .up) (c .before .node .result) (pos 0))) ≡ getD (loop .loop .up) (c .before .node .result) (pos 0)
   held = handed-on _ (c .down .given)
@@ -48,8 +51,14 @@ module _ (c : tie.After-known Inv-loop μ-loop) where
   unfolding pairAt
   knows = rw (lt-ltb _ _ (parent-less (turning down))) (c .known .ensures ∙ ap (knownBy _) (handed-on _ (c .before .known-arg2 .given)))
 
+clear-requires : tie.Need-clear-requires Inv-loop μ-loop
+clear-requires c κs = c .before .pre .room
+
+full-requires : tie.Need-full-requires Inv-loop μ-loop
+full-requires c κs = search needs
+
 loop-holds : tie.Need-loop-holds Inv-loop μ-loop
-loop-holds c = passes-none (c .pre)
+loop-holds c = passes-none (c .before .before .before .before .pre) (c .before .before .clear .ensures) (c .full .ensures)
 
 sub-i : tie.Need-sub-i Inv-loop μ-loop
 sub-i c = search needs
@@ -63,14 +72,14 @@ node-requires c κs = search needs
 mul-down : tie.Need-mul-down Inv-loop μ-loop
 mul-down c = search needs
 
-array-copy-out-down : tie.Need-array-copy-out-down Inv-loop μ-loop
-array-copy-out-down c = search needs
+element-copy-out-down : tie.Need-element-copy-out-down Inv-loop μ-loop
+element-copy-out-down c = search needs
 
-mul-down-2 : tie.Need-mul-down-2 Inv-loop μ-loop
-mul-down-2 c = search needs
+mul-t25 : tie.Need-mul-t25 Inv-loop μ-loop
+mul-t25 c = search needs
 
-array-set-from-down : tie.Need-array-set-from-down Inv-loop μ-loop
-array-set-from-down c = search needs
+element-set-from-down : tie.Need-element-set-from-down Inv-loop μ-loop
+element-set-from-down c = search needs
 
 loop-less : tie.Need-loop-less Inv-loop μ-loop
 loop-less c = search needs
@@ -81,8 +90,8 @@ loop-again c = rw (held (c .before)) (passes-on (turning (c .before)) (c .if1 .t
 mul-plus : tie.Need-mul-plus Inv-loop μ-loop
 mul-plus c = search needs
 
-array-copy-out-plus : tie.Need-array-copy-out-plus Inv-loop μ-loop
-array-copy-out-plus c = search needs
+element-copy-out-plus : tie.Need-element-copy-out-plus Inv-loop μ-loop
+element-copy-out-plus c = search needs
 
 element-copy-out-known : tie.Need-element-copy-out-known Inv-loop μ-loop
 element-copy-out-known c = search needs
@@ -100,11 +109,11 @@ plus-requires : tie.Need-plus-requires Inv-loop μ-loop
 plus-requires c κs =
     rw (held (down c), handed-on (c .known .result) (c .known .ok)) (due-fits (turning (down c)) (c .before .before .before .before .if1 .left) (knows c))
 
-mul-up : tie.Need-mul-up Inv-loop μ-loop
-mul-up c = search needs
+mul-t41 : tie.Need-mul-t41 Inv-loop μ-loop
+mul-t41 c = search needs
 
-array-set-from-up : tie.Need-array-set-from-up Inv-loop μ-loop
-array-set-from-up c = search needs
+element-set-from-up : tie.Need-element-set-from-up Inv-loop μ-loop
+element-set-from-up c = search needs
 
 loop-less-2 : tie.Need-loop-less-2 Inv-loop μ-loop
 loop-less-2 c = search needs
@@ -124,25 +133,27 @@ of-spec =
     (tie.spec
     Inv-loop
     μ-loop
+    clear-requires
+    full-requires
     loop-holds
     sub-i
     element-copy-out-node
     node-requires
     mul-down
-    array-copy-out-down
-    mul-down-2
-    array-set-from-down
+    element-copy-out-down
+    mul-t25
+    element-set-from-down
     loop-less
     loop-again
     mul-plus
-    array-copy-out-plus
+    element-copy-out-plus
     element-copy-out-known
     mul-known
     element-copy-out-known-2
     known-requires
     plus-requires
-    mul-up
-    array-set-from-up
+    mul-t41
+    element-set-from-up
     loop-less-2
     loop-again-2
     returns)

@@ -1,0 +1,73 @@
+-- A request as an act at a node, served in place: what the functions that do so ask for, and what they leave.
+use mathlib.Core.Path.{_≡_}
+use mathlib.Core.List.{List}
+use Prim.Native.Nat.{ℕ, _<_}
+use lib.IntN.{ℤ, pos}
+use lib.ListN.{length, set}
+use Rattle.tree.specs.Operation.{sum}
+use Rattle.requests.specs.declared.Request.{Request}
+use Rattle.requests.specs.declared.Request.the-variants as request
+use Rattle.session.specs.Holding.{Typed}
+use Rattle.session.specs.Soundness.{Sound}
+use Rattle.session.specs.declared.Session.{Session}
+use Rattle.mechanism.specs.Views.{View}
+use Rattle.mechanism.specs.Combining.{Said, said, combine}
+use Rattle.mechanism.specs.Spreading.{write}
+use Rattle.trace.specs.Traces.{Trace, pushedAll}
+use Rattle.walk.specs.Asking.{Fit}
+use Rattle.walk.specs.Links.{Linked}
+use Rattle.walk.specs.Telling.{Steady}
+use Rattle.aggregate.specs.Afters.{upRaised, downRaised}
+use Rattle.aggregate.specs.declared.Outcome.{Outcome}
+use Rattle.aggregate.specs.declared.Served.{Served}
+use Rattle.aggregate.specs.declared.act.Act.{Act}
+use Rattle.aggregate.specs.declared.act.Act.the-variants.{Combine, Write}
+
+-- the request of an act at x
+abbrev pub requestAt : ℕ → Act → Request
+requestAt x Combine = request.Combine x
+requestAt x (Write z) = request.Write x z
+
+-- an outcome, and the session whose parts were left with it
+abbrev pub servedAs : Outcome → Session → Served
+servedAs o s = record { outcome = o; session = s }
+
+-- a sound session, with the links of its tree
+pub record Servable (s : Session) (first next : List ℕ) : Type 0 where
+  pub typed : Typed s
+  pub holds : Sound 2 s
+  pub linked : Linked (s .tree .count) (s .tree .parents) first next
+
+-- ---- the steps of an act
+
+-- a write sets its value
+abbrev pub begun : Act → ℕ → List ℤ → List ℤ
+begun Combine x vs = vs
+begun (Write z) x vs = set vs x z
+
+-- then its walk is made
+abbrev pub walked : Act → View → ℕ → Said
+walked Combine q x = combine sum q x
+walked (Write z) q x = said (pos 0) (write sum q x)
+
+-- either walk can be made from x
+pub record Walkable (q : View) (first next : List ℕ) (x : ℕ) : Type 0 where
+  pub inside : x < q .count
+  pub fit : Fit q
+  pub steady : Steady q
+  pub linked : Linked (q .count) (q .parents) first next
+
+-- what it leaves: its sum, and its messages after those of t, which has room for 510
+pub record Walked (a : Act) (q : View) (x : ℕ) (z : ℤ) (t t′ : Trace) : Type 0 where
+  pub room : length (t .numbers) ≡ 510
+  pub sums : z ≡ walked a q x .sum
+  pub logs : t′ ≡ pushedAll (walked a q x .log) t
+
+-- at last a combine raises every pair that points to x
+abbrev pub upSettled : Act → List ℕ → ℕ → ℕ → List ℕ → List ℕ
+upSettled Combine ps n x l = upRaised ps n 2 x l
+upSettled (Write z) ps n x l = l
+
+abbrev pub downSettled : Act → List ℕ → ℕ → ℕ → List ℕ → List ℕ
+downSettled Combine ps n x l = downRaised ps n 2 x l
+downSettled (Write z) ps n x l = l
