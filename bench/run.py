@@ -5,7 +5,8 @@
 
 FOLDER is the Cargo project of the plain implementation; `cargo run --release -- --bench` there prints
 lines like `path 16 cold combine   1234 ns`. It is built in a temporary folder. The program `bench` of
-this repository is proved and built by `rt check bench`. It takes about a minute.
+this repository is proved and built by `rt check bench`. It takes about two minutes, and an x86-64
+processor: the toolchain compiles for that alone, and under an emulator a time says nothing.
 
 How to read the table: a line is a request at the last node of a tree. `here` and `plain` are the
 nanoseconds of one request, the best of some rounds in which both are timed; here that is the time of
@@ -16,8 +17,11 @@ that does nothing else.
     free combine              after a combine at the same node: no messages
     silent write              on a fresh session: no messages
     write after combine at 0  on a fresh session, the combine is in the time
+    list of combines          64 free combines in one call; the time is that of one of them
+    list of writes            64 silent writes in one call, likewise
 """
 import pathlib
+import platform
 import subprocess
 import sys
 import tempfile
@@ -28,7 +32,15 @@ ROUNDS = 9
 TIMES = 4000
 SIZES = (16, 64, 256)
 PARENTS = {"path": lambda i: i - 1, "star": lambda i: 0, "binary": lambda i: (i - 1) // 2}
-LETTERS = {"cold combine": "C", "free combine": "F", "silent write": "S", "write after combine at 0": "W"}
+LETTERS = {
+    "cold combine": "C",
+    "free combine": "F",
+    "silent write": "S",
+    "write after combine at 0": "W",
+    "list of combines": "L",
+    "list of writes": "V",
+}
+LISTED = 64
 ROWS = [(tree, nodes, request) for nodes in SIZES for tree in PARENTS for request in LETTERS]
 
 
@@ -61,17 +73,24 @@ def plain(folder, target):
     return {(tree, int(nodes), " ".join(request)): float(taken) for tree, nodes, *request, taken, _ in map(str.split, lines)}
 
 
+def requests_in(request):
+    """How many requests one call makes."""
+    return LISTED if request.startswith("list of") else 1
+
+
 def main():
     if len(sys.argv) != 2:
         sys.exit(__doc__)
+    if platform.machine() != "x86_64":
+        sys.exit(f"bench/run.py needs an x86-64 processor: on {platform.machine()} it would time an emulator")
     subprocess.run(["rt", "check", "bench"], cwd=HOUSE, stdout=subprocess.DEVNULL, check=True)
     with tempfile.TemporaryDirectory() as target:
         rounds = [(here(TIMES), here(0), plain(sys.argv[1], target)) for _ in range(ROUNDS)]
     print(f"{'tree':8}{'nodes':>5}  {'request':26}{'here':>8}{'plain':>8}{'ratio':>7}")
     for row in ROWS:
         many, none, theirs = (min(times[row] for times in column) for column in zip(*rounds))
-        ours = (many - none) / TIMES
         tree, nodes, request = row
+        ours = (many - none) / TIMES / requests_in(request)
         print(f"{tree:8}{nodes:5}  {request:26}{ours:8.0f}{theirs:8.0f}{ours / theirs:7.2f}")
 
 

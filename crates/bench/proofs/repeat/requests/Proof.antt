@@ -1,21 +1,15 @@
--- `repeat::sum` is safe and ends.
+-- `repeat::requests` is safe and ends.
 use mathlib.Core.Path.{_≡_}
 use lib.ListN.{length}
 use borrow.Author.Needs.{needs}
-use Rattle.bench.proofs.repeat.sum.Statement.{statement}
-use Rattle.bench.proofs.repeat.sum.Tie as tie
+use Rattle.bench.proofs.repeat.requests.Statement.{statement}
+use Rattle.bench.proofs.repeat.requests.Tie as tie
 
 abbrev Inv-loop : tie.InvT-loop
-Inv-loop letter times log₀ x session sum₀ left₀ log sum left = length log ≡ length log₀
+Inv-loop letter times session x log₀ sum₀ left₀ log sum left = length log ≡ length log₀
 
 abbrev μ-loop : tie.MeasureT-loop
-μ-loop letter times log₀ x session sum₀ left₀ log sum left = left
-
-last-requires : tie.Need-last-requires Inv-loop μ-loop
-last-requires c κs = search needs
-
-before-requires : tie.Need-before-requires Inv-loop μ-loop
-before-requires c κs = search needs
+μ-loop letter times session x log₀ sum₀ left₀ log sum left = left
 
 loop-holds : tie.Need-loop-holds Inv-loop μ-loop
 loop-holds c = search needs
@@ -25,6 +19,9 @@ sub-left c = search needs
 
 after-requires : tie.Need-after-requires Inv-loop μ-loop
 after-requires c κs = search needs
+
+said-requires : tie.Need-said-requires Inv-loop μ-loop
+said-requires c κs = search needs
 
 mixed-requires : tie.Need-mixed-requires Inv-loop μ-loop
 mixed-requires c κs = search needs
@@ -41,19 +38,7 @@ same-length c = search needs
 returns : tie.Need-returns Inv-loop μ-loop
 returns c = search needs
 
-pub sum-spec : {M : Type 1} → statement M
-sum-spec =
+pub requests-spec : {M : Type 1} → statement M
+requests-spec =
     tie.close
-    (tie.spec
-    Inv-loop
-    μ-loop
-    last-requires
-    before-requires
-    loop-holds
-    sub-left
-    after-requires
-    mixed-requires
-    loop-less
-    loop-again
-    same-length
-    returns)
+    (tie.spec Inv-loop μ-loop loop-holds sub-left after-requires said-requires mixed-requires loop-less loop-again same-length returns)
