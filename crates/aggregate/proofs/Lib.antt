@@ -5,6 +5,7 @@ pub mod Raising
 pub mod Judging
 pub mod Ending
 pub mod Acting
+pub mod ByRule
 pub mod Verdicts
 pub mod Logging
 pub mod Keeping

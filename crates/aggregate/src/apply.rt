@@ -1,11 +1,13 @@
-// What messages make of a session: each counts at its pair, and becomes its cache.
+// What messages make of a session's pairs: each counts at its pair, a response or an update becomes the
+// cache, and an update lowers the number.
 use crate::reads;
 ghost use mathlib.Core.Path.{_≡_};
-ghost use Prim.Native.Nat.{_-_, _<_, _≤_};
+ghost use Prim.Native.Nat.{_<_, _≤_};
 ghost use Rattle.mechanism.specs.Applying as spec;
 ghost use Rattle.trace.specs.Traces.{messagesOf};
 ghost use Rattle.aggregate.specs.Afters.{pairsOf, linksBy, Counts};
 use messages::Message;
+use rule::Rule;
 
 // The first len messages, each at its pair.
 pub fn apply(
@@ -56,16 +58,10 @@ fn hit(
         }
         Message::Update(_, _, z) => {
             cache[i] = z;
-            lease[i] = less_one(lease[i]);
+            lease[i] = Rule::after_writes(lease[i], 1);
         }
         Message::Release(_, _) => {}
     }
-}
-
-fn less_one(x: u8) -> u8
-    ensures { λ r. ⌜ r ≡ x - 1 ⌝ }
-{
-    if 0 < x { x - 1 } else { 0 }
 }
 
 // The pair that owns a message: its near end, and its far end.

@@ -2,6 +2,7 @@
 use crate::Outcome;
 ghost use mathlib.Core.Path.{_≡_};
 ghost use Rattle.aggregate.specs.Serving as spec;
+use session::Session;
 
 // The refusal of a request before its walk, 0 for none: 9 is known after it.
 pub fn early_refusal(count: u16, accepted: u32, x: usize) -> u8
@@ -10,7 +11,7 @@ pub fn early_refusal(count: u16, accepted: u32, x: usize) -> u8
     if count as usize <= x {
         return 7;
     }
-    if 1048576 <= accepted {
+    if Session::LIMIT <= accepted {
         return 8;
     }
     0

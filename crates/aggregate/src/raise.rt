@@ -4,7 +4,7 @@ ghost use mathlib.Core.Path.{_≡_};
 ghost use Rattle.aggregate.specs.Afters.{Climbing, upRaised, downRaised};
 use rule::Rule;
 
-// Every pair that points to x gets the rule's number. `at` is the next node on the way from x to the
+// Every pair that points to x gets the number that a combine gives it. `at` is the next node on the way from x to the
 // root: below it lies x, and below no other node of its number or more.
 pub fn raise(count: usize, parents: &[u8; 256], x: usize, up: &mut [u8; 256], down: &mut [u8; 256])
     requires { ⌜ Climbing (now parents) count x (now up) (now down) ⌝ }
@@ -15,10 +15,10 @@ pub fn raise(count: usize, parents: &[u8; 256], x: usize, up: &mut [u8; 256], do
     while 1 < i {
         i -= 1;
         if i == at {
-            down[i] = Rule::BREAK;
+            down[i] = Rule::after_combines(down[i], 1);
             at = reads::node(parents[i]);
         } else {
-            up[i] = Rule::BREAK;
+            up[i] = Rule::after_combines(up[i], 1);
         }
     }
 }

@@ -7,6 +7,7 @@ ghost use lib.ListN.{getD};
 ghost use Rattle.tree.specs.Every.{every, from};
 ghost use Rattle.tree.specs.Ranges.{inRange};
 ghost use Rattle.session.specs.Passes as pass;
+use rule::Rule;
 
 // The entries of all pairs of one direction: from child to parent, or from parent to child (down). Each
 // pass goes over all its places, whatever it finds.
@@ -23,7 +24,7 @@ pub fn pairs<'a>(
     ensures { λ r. ⌜ r ≡ pass.pairs count twice down (now (sizes .entry)) (now (lease .entry)) (now (cache .entry)) (now (messages .entry)) ⌝ }
 {
     let n = count as usize;
-    let leased = no_leases(0, 1, lease) & leases(n, 2, lease) & no_leases(n, 256, lease);
+    let leased = no_leases(0, 1, lease) & leases(n, Rule::BREAK, lease) & no_leases(n, 256, lease);
     let counted = no_counts(0, 1, messages)
         & counts(n, twice, messages)
         & no_counts(n, 256, messages);

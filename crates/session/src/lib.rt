@@ -42,6 +42,9 @@ pub struct Started {
 }
 
 impl Session {
+    // The most requests that a session accepts.
+    pub const LIMIT: u32 = 1048576;
+
     // A session that has zeros in all but the tree. Refusal: 6 the tree is out of rule; the session
     // then has zeros alone.
     pub fn fresh(tree: Tree) -> Started
@@ -139,7 +142,7 @@ pub fn parts_are_sound<'a>(
     if sizes[0] == 0 {
         return false;
     }
-    if 1048576 < accepted {
+    if Session::LIMIT < accepted {
         return false;
     }
     let twice = 2 * accepted;

@@ -1,9 +1,11 @@
 -- `apply::hit` meets its contract: what a message does not change is stored as it was.
+use mathlib.Core.Path.{_∙_}
 use lib.IntN.{pos}
 use lib.Seq.{set-getD}
 use Rattle.messages.proofs.Parts.{handed-on}
 use Rattle.mechanism.specs.Applying.{hit}
 use borrow.Author.Needs.{needs}
+use Rattle.aggregate.proofs.ByRule.{after-write}
 use Rattle.aggregate.proofs.apply.hit.Statement.{statement}
 use Rattle.aggregate.proofs.apply.hit.Tie as tie
 
@@ -43,11 +45,11 @@ mul-z-2 c = search needs
 element-set-from-z-2 : tie.Need-element-set-from-z-2
 element-set-from-z-2 c = search needs
 
-element-copy-out-less-one : tie.Need-element-copy-out-less-one
-element-copy-out-less-one c = search needs
+element-copy-out-after-writes : tie.Need-element-copy-out-after-writes
+element-copy-out-after-writes c = search needs
 
-less-one-requires : tie.Need-less-one-requires
-less-one-requires c κs = search needs
+after-writes-requires : tie.Need-after-writes-requires
+after-writes-requires c κs = search needs
 
 element-write-lease : tie.Need-element-write-lease
 element-write-lease c = search needs
@@ -72,7 +74,7 @@ returns-3 : tie.Need-returns-3
 unfolding hit
 returns-3 c =
     let m = c .before .before .before .message2 .given in
-    rw (m .1, c .less-one .ensures, handed-on (m .0 .1 .1 .0) (c .before .before .known-told2 .given .1 .1 .0 .1))
+    rw (m .1, c .after-writes .ensures ∙ after-write _, handed-on (m .0 .1 .1 .0) (c .before .before .known-told2 .given .1 .1 .0 .1))
 
 returns-4 : tie.Need-returns-4
 unfolding hit
@@ -96,8 +98,8 @@ hit-spec =
     enum-known-message-2
     mul-z-2
     element-set-from-z-2
-    element-copy-out-less-one
-    less-one-requires
+    element-copy-out-after-writes
+    after-writes-requires
     element-write-lease
     enum-told-2
     returns

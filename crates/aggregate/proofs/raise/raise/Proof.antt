@@ -1,8 +1,9 @@
 -- `raise::raise` meets its contract: the nodes from i on are raised.
-use mathlib.Core.Path.{_≡_}
+use mathlib.Core.Path.{_≡_, _∙_}
 use Prim.Native.Nat.{suc, _-_}
 use native.Mathlib.Omega.{arith}
 use borrow.Author.Needs.{needs}
+use Rattle.aggregate.proofs.ByRule.{after-combine}
 use Rattle.aggregate.proofs.Raising.{Climbed, climbed-none, climbed-on, climbed-off, climbed-all}
 use Rattle.aggregate.proofs.raise.raise.Statement.{statement}
 use Rattle.aggregate.proofs.raise.raise.Tie as tie
@@ -19,6 +20,12 @@ loop-holds c = climbed-none (c .pre)
 sub-i : tie.Need-sub-i Inv-loop μ-loop
 sub-i c = search needs
 
+element-copy-out-after-combines : tie.Need-element-copy-out-after-combines Inv-loop μ-loop
+element-copy-out-after-combines c = search needs
+
+after-combines-requires : tie.Need-after-combines-requires Inv-loop μ-loop
+after-combines-requires c κs = search needs
+
 element-write-down : tie.Need-element-write-down Inv-loop μ-loop
 element-write-down c = search needs
 
@@ -33,9 +40,15 @@ loop-less c = search needs
 
 loop-again : tie.Need-loop-again Inv-loop μ-loop
 loop-again c =
-    let l = c .before .before .before .before in
+    let l = c .before .before .before .before .before .before in
     let e : l .loop .i ≡ suc (l .loop .i - 1) = omega arith in
-    rw (c .node .ensures .0) (climbed-on (l .before .pre) (l .loop .inv) e (omega arith) (c .before .before .if1 .taken))
+    rw (c .node .ensures .0, c .before .before .after-combines .ensures ∙ after-combine _) (climbed-on (l .before .pre) (l .loop .inv) e (omega arith) (c .before .before .before .before .if1 .taken))
+
+element-copy-out-after-combines-2 : tie.Need-element-copy-out-after-combines-2 Inv-loop μ-loop
+element-copy-out-after-combines-2 c = search needs
+
+after-combines-requires-2 : tie.Need-after-combines-requires-2 Inv-loop μ-loop
+after-combines-requires-2 c κs = search needs
 
 element-write-up : tie.Need-element-write-up Inv-loop μ-loop
 element-write-up c = search needs
@@ -45,9 +58,9 @@ loop-less-2 c = search needs
 
 loop-again-2 : tie.Need-loop-again-2 Inv-loop μ-loop
 loop-again-2 c =
-    let l = c .before .before in
+    let l = c .before .before .before .before in
     let e : l .loop .i ≡ suc (l .loop .i - 1) = omega arith in
-    climbed-off (l .before .pre) (l .loop .inv) e (omega arith) (c .if1 .left)
+    rw (c .after-combines2 .ensures ∙ after-combine _) (climbed-off (l .before .pre) (l .loop .inv) e (omega arith) (c .before .before .if1 .left))
 
 returns : tie.Need-returns Inv-loop μ-loop
 returns c = climbed-all (c .before .before .pre) (c .before .loop .inv) (omega arith)
@@ -60,11 +73,15 @@ raise-spec =
     μ-loop
     loop-holds
     sub-i
+    element-copy-out-after-combines
+    after-combines-requires
     element-write-down
     element-copy-out-node
     node-requires
     loop-less
     loop-again
+    element-copy-out-after-combines-2
+    after-combines-requires-2
     element-write-up
     loop-less-2
     loop-again-2
