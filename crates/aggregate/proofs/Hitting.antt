@@ -12,7 +12,8 @@ use Rattle.messages.specs.declared.Message.{Message}
 use Rattle.messages.specs.declared.Message.the-variants.{Probe, Response, Update, Release}
 use Rattle.session.specs.declared.Pairs.{Pairs}
 use Rattle.mechanism.specs.Applying.{fromOf, toOf, Cell, hit, readAt, storeAt, Links, cell, putIf, put, stepped, applied}
-use Rattle.trace.specs.Traces.{decoded, messagesIn}
+use Rattle.messages.specs.Reading.{decoded}
+use Rattle.trace.specs.Traces.{messagesIn}
 use Rattle.aggregate.specs.Afters.{Counts}
 
 -- ---- a message at its pair, by the side of the entry

@@ -27,7 +27,7 @@ pub fn apply(
 {
     let mut k: usize = 0;
     while k < len {
-        let message = trace::decoded(trace[k]);
+        let message = messages::decode(trace[k]);
         k += 1;
         let u = from(message);
         let v = to(message);

@@ -13,10 +13,12 @@ use borrow.Author.Tests.{le-leb, lt-leb}
 use Rattle.fields.specs.Fields.{putField}
 use Rattle.fields.specs.Usable.{usableBits, putAt}
 use Rattle.fields.proofs.Rooms.{taken-is-put}
-use Rattle.messages.specs.Records.{kindOf, fits, bitsOf, recordOf}
+use Rattle.messages.specs.Records.{kindOf, fits, bitsOf, recordOf, coded, codedOf, toldCoded}
 use Rattle.messages.specs.Writing.{room, writtenOf, logAfter, toldWritten}
-use Rattle.messages.specs.Promises.{Written-exactly, Full-exactly, Misfit-exactly, Refused-log-kept}
+use Rattle.messages.specs.Promises.{Coded-exactly, Uncoded-exactly, Written-exactly, Full-exactly, Misfit-exactly, Refused-log-kept}
 use Rattle.messages.specs.declared.Message.{Message}
+use Rattle.messages.specs.declared.Coded.{Coded}
+use Rattle.messages.specs.declared.Coded.the-variants as coding
 use Rattle.messages.specs.declared.Written.{Written}
 use Rattle.messages.specs.declared.Written.the-variants.{Next, Full, Misfit}
 use Rattle.messages.proofs.Widths.{width-bounds}
@@ -97,4 +99,35 @@ misfit-exactly n place m = (
       (λ h f e. (h, f))
       (λ h e. let y : 9 ≡ 11 = ap code e in absurd (omega arith)),
   λ (h, f). ap toldWritten (answer-misfit n place m h f),
+)
+
+-- ---- a message as a number
+
+module _ (m : Message) where
+  pub answer-coded : fits m ≡ true → codedOf m ≡ coding.Number (coded m)
+  unfolding codedOf
+  answer-coded f = rw f
+
+  pub answer-uncoded : fits m ≡ false → codedOf m ≡ coding.Misfit
+  unfolding codedOf
+  answer-uncoded f = rw f
+
+  -- there are no other cases
+  pub by-fit : (P : Coded → Type 0) → (fits m ≡ true → P (coding.Number (coded m))) → (fits m ≡ false → P coding.Misfit) → P (codedOf m)
+  by-fit P number misfit = go (fits m) refl
+    where
+      go : (b : Bool) → fits m ≡ b → P (codedOf m)
+      go true f = rw (answer-coded f) (number f)
+      go false f = rw (answer-uncoded f) (misfit f)
+
+pub coded-exactly : Coded-exactly
+coded-exactly m n = (
+  by-fit m (λ x. toldCoded x ≡ (0, n) → (fits m ≡ true) × (n ≡ coded m)) (λ f e. (f, sym (ap (λ (t : ℕ × ℕ). t .1) e))) (λ f e. absurd (suc-ne-zero 10 (ap code e))),
+  λ (f, e). ap toldCoded (answer-coded m f) ∙ ap (λ (k : ℕ). (0, k)) (sym e),
+)
+
+pub uncoded-exactly : Uncoded-exactly
+uncoded-exactly m = (
+  by-fit m (λ x. toldCoded x ≡ (11, 0) → fits m ≡ false) (λ f e. absurd (suc-ne-zero 10 (sym (ap code e)))) (λ f e. f),
+  λ f. ap toldCoded (answer-uncoded m f),
 )

@@ -10,11 +10,23 @@ use denote.Triple.Clauses.{AtExit}
 use denote.Triple.Entry.{Args, Res}
 use Rattle.fields.specs.Outcomes.{OneResult, OneOutcome}
 use Rattle.messages.specs.declared.reader.LogReader.{LogReader}
+use Rattle.messages.proofs.bits.Reads as bits
+use Rattle.messages.proofs.code.Reads as code
+use Rattle.messages.proofs.decode.Reads as decode
 use Rattle.messages.proofs.write.Reads as write
 use Rattle.messages.proofs.read.Reads as read
 use Rattle.messages.proofs.reader.count.Reads as count
 use Rattle.messages.proofs.reader.LogReader.new as reader-new
 use Rattle.messages.proofs.reader.LogReader.read as reader-read
+
+pub bits-once : OneResult bits.Post
+bits-once κ a x y s t p q = p ∙ sym q
+
+pub code-once : OneResult code.Post
+code-once κ a x y s t p q = p ∙ sym q
+
+pub decode-once : OneResult decode.Post
+decode-once κ a x y s t p q = p ∙ sym q
 
 pub write-once : OneOutcome write.Post (λ κ s. now (s .0))
 write-once κ a x y s t p q = (p .0 ∙ sym (q .0), p .1 ∙ sym (q .1))

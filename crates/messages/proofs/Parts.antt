@@ -14,7 +14,6 @@ use Rattle.fields.specs.Fields.{field}
 use Rattle.fields.specs.Usable.{usableBits, fieldAt}
 use Rattle.fields.specs.declared.Field.{Field}
 use Rattle.fields.specs.declared.Field.the-variants as finding
-use Rattle.fields.proofs.ReadBack.{field-lt}
 use Rattle.fields.proofs.Rooms.{there}
 use Rattle.twos.specs.Twos.{twos, signed, wide, within, encodes, encoded, decoded}
 use Rattle.twos.specs.declared.Encoded.{Encoded}
@@ -32,14 +31,14 @@ pub part-found : (s : List ℕ) (place w : ℕ) → w ≤ 64 → place + w ≤ u
 unfolding fieldAt
 part-found s place w h l = rw (there (length s) place w h l)
 
--- the value of a field of 40 bits
+-- the value of 40 bits
 abbrev pub valueIn : Decoded → ℤ
 valueIn (decoding.Value z) = z
 valueIn decoding.Misfit = pos 0
 
-pub value-found : (s : List ℕ) (place : ℕ) → valueIn (decoded 40 (field s place 40)) ≡ signed 40 (field s place 40)
+pub value-found : (n : ℕ) → n < 2 ^ 40 → valueIn (decoded 40 n) ≡ signed 40 n
 unfolding decoded
-value-found s place = rw (decodes-there 40 (field s place 40) (omega arith) (omega arith) (field-lt s place 40))
+value-found n h = rw (decodes-there 40 n (omega arith) (omega arith) h)
 
 -- the number of a value that fits, behind a head
 abbrev pub behind : ℕ → Encoded → ℕ

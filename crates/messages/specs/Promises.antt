@@ -8,14 +8,25 @@ use lib.ListN.{length}
 use Rattle.fields.specs.Bits.{bit}
 use Rattle.fields.specs.Fields.{field}
 use Rattle.fields.specs.Usable.{usableBits}
-use Rattle.messages.specs.Records.{Sized, AllSized, fits, bitsOf, recordOf, widthOf}
+use Rattle.messages.specs.Records.{Sized, AllSized, fits, bitsOf, recordOf, widthOf, coded, codedOf, toldCoded}
 use Rattle.messages.specs.Writing.{writtenOf, logAfter, toldWritten, logged, bitsOfAll}
-use Rattle.messages.specs.Reading.{entryAt, told, Reads, messagesFrom, countFrom}
+use Rattle.messages.specs.Reading.{decoded, entryAt, told, Reads, messagesFrom, countFrom}
 use Rattle.messages.specs.declared.Message.{Message}
 
 -- A record is a field of 18 or 58 bits.
 abbrev pub Record-fits : Type 0
 Record-fits = (m : Message) → Sized m → recordOf m < 2 ^ bitsOf m
+
+-- A message has a number exactly where its value fits 40 bits; where it does not, 11 is answered.
+abbrev pub Coded-exactly : Type 0
+Coded-exactly = (m : Message) (n : ℕ) → (toldCoded (codedOf m) ≡ (0, n)) ↔ ((fits m ≡ true) × (n ≡ coded m))
+
+abbrev pub Uncoded-exactly : Type 0
+Uncoded-exactly = (m : Message) → (toldCoded (codedOf m) ≡ (11, 0)) ↔ (fits m ≡ false)
+
+-- A message is read back from its number.
+abbrev pub Coded-back : Type 0
+Coded-back = (m : Message) → Sized m → decoded (coded m) ≡ m
 
 -- A message is written exactly where its record lies in the usable log and its value fits 40 bits;
 abbrev pub Written-exactly : Type 0

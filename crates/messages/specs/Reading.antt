@@ -2,7 +2,7 @@
 use mathlib.Core.Path.{_≡_}
 use mathlib.Core.Bool.{Bool, true, false, cond}
 use mathlib.Core.List.{List, [], _∷_}
-use Prim.Native.Nat.{ℕ, zero, suc, _+_}
+use Prim.Native.Nat.{ℕ, zero, suc, _+_, _/_, _%_}
 use lib.Dec.{eqb, leb}
 use lib.IntN.{ℤ}
 use lib.ListN.{length}
@@ -18,6 +18,10 @@ use Rattle.messages.specs.declared.Entry.the-variants.{Read, End, Short}
 -- the message of a kind, from a to b, with value z
 unfoldable pub messageOf : ℕ → ℕ → ℕ → ℤ → Message
 messageOf kind a b z = cond (eqb kind 0) (Probe a b) (cond (eqb kind 1) (Response a b z) (cond (eqb kind 2) (Update a b z) (Release a b)))
+
+-- the message of a number of 58 bits
+unfoldable pub decoded : ℕ → Message
+decoded n = messageOf (n / 72057594037927936) (n / 281474976710656 % 256) (n / 1099511627776 % 256) (signed 40 (n % 1099511627776))
 
 -- the message of a kind whose record starts at place: kind in 2 bits, sender in 8, receiver in 8, value in 40
 unfoldable pub messageAt : List ℕ → ℕ → ℕ → Message

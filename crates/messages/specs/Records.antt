@@ -2,11 +2,13 @@
 use mathlib.Core.Path.{_≡_}
 use mathlib.Core.Bool.{Bool, true, cond, _||_}
 use mathlib.Core.List.{List, [], _∷_}
-use Prim.Native.Nat.{ℕ, _+_, _*_, _^_, _<_}
+use Prim.Native.Nat.{ℕ, _+_, _-_, _*_, _^_, _<_}
 use lib.Dec.{eqb}
 use Rattle.twos.specs.Twos.{twos, within}
 use Rattle.messages.specs.declared.Message.{Message}
 use Rattle.messages.specs.declared.Message.the-variants.{Probe, Response, Update, Release}
+use Rattle.messages.specs.declared.Coded.{Coded}
+use Rattle.messages.specs.declared.Coded.the-variants.{Number, Misfit}
 
 unfoldable pub kindOf : Message → ℕ
 kindOf (Probe a b) = 0
@@ -57,3 +59,16 @@ recordOf (Probe a b) = headOf 0 a b
 recordOf (Response a b z) = headOf 1 a b * 2 ^ 40 + twos 40 z
 recordOf (Update a b z) = headOf 2 a b * 2 ^ 40 + twos 40 z
 recordOf (Release a b) = headOf 3 a b
+
+-- A message as a number of 58 bits: its record, with zero bits behind it.
+unfoldable pub coded : Message → ℕ
+coded m = recordOf m * 2 ^ (58 - bitsOf m)
+
+-- what is answered: the number, where the value fits
+unfoldable pub codedOf : Message → Coded
+codedOf m = cond (fits m) (Number (coded m)) Misfit
+
+-- document 01's number and that of the message: 11 where the value does not fit 40 bits
+abbrev pub toldCoded : Coded → ℕ × ℕ
+toldCoded (Number n) = (0, n)
+toldCoded Misfit = (11, 0)

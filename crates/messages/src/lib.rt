@@ -9,8 +9,9 @@ pub use reader::LogReader;
 pub use reader::count;
 ghost use mathlib.Core.Path.{_≡_};
 ghost use lib.ListN.{length};
+ghost use Rattle.messages.specs.Records.{bitsOf, codedOf};
 ghost use Rattle.messages.specs.Writing.{writtenOf, logAfter};
-ghost use Rattle.messages.specs.Reading.{entryAt};
+ghost use Rattle.messages.specs.Reading.{decoded, entryAt};
 
 // What one node sends a neighbour: the sender, the receiver, and for a response and an update the
 // value.
@@ -19,6 +20,14 @@ pub enum Message {
     Response(u8, u8, i64),
     Update(u8, u8, i64),
     Release(u8, u8),
+}
+
+// A message as a number.
+pub enum Coded {
+    // its record, with zero bits behind it up to 58
+    Number(u64),
+    // the value does not fit the record's 40 bits
+    Misfit,
 }
 
 // What writing a message answers.
@@ -40,6 +49,44 @@ pub enum Entry {
     // fewer bits are left before the end than the record has, the place is past the end, or the end
     // is past the usable log
     Short,
+}
+
+// How many bits a message's record has.
+pub fn bits(message: Message) -> usize
+    ensures { λ r. ⌜ r ≡ bitsOf message ⌝ }
+{
+    record::width(message)
+}
+
+// A message as a number of 58 bits: its record, with zero bits behind it.
+pub fn code(message: Message) -> Coded
+    ensures { λ r. ⌜ r ≡ codedOf message ⌝ }
+{
+    if record::holds(message) {
+        let number = record::number(message);
+        return Coded::Number(record::padded(record::width(message), number));
+    }
+    Coded::Misfit
+}
+
+// The message of such a number.
+pub fn decode(number: u64) -> Message
+    ensures { λ r. ⌜ r ≡ decoded number ⌝ }
+{
+    let kind = number / 72057594037927936;
+    let from = (number / 281474976710656 % 256) as u8;
+    let to = (number / 1099511627776 % 256) as u8;
+    let value = record::signed(number % 1099511627776);
+    if kind == 0 {
+        return Message::Probe(from, to);
+    }
+    if kind == 1 {
+        return Message::Response(from, to, value);
+    }
+    if kind == 2 {
+        return Message::Update(from, to, value);
+    }
+    Message::Release(from, to)
 }
 
 // Writes the message's record from place on. Where it is refused, nothing is changed.

@@ -1,12 +1,14 @@
 // A message as a record of bits.
 ghost use mathlib.Core.Path.{_≡_};
 ghost use mathlib.Core.Bool.{true};
-ghost use Prim.Native.Nat.{_+_, _*_, _^_, _≤_, _<_};
+ghost use mathlib.Core.Logic.{_⊎_};
+ghost use Prim.Native.Nat.{_+_, _-_, _*_, _^_, _≤_, _<_};
 ghost use lib.Dec.{leb};
 ghost use lib.ListN.{length};
 ghost use Rattle.fields.specs.Fields.{field};
 ghost use Rattle.fields.specs.Usable.{usableBits};
-ghost use Rattle.twos.specs.Twos.{twos, signed, within};
+ghost use Rattle.twos.specs.Twos.{twos, within};
+ghost use Rattle.twos.specs.Twos.{signed as Twos·signed};
 ghost use Rattle.messages.specs.Records.{widthOf, kindOf, bitsOf, headOf, recordOf, fits};
 ghost use Rattle.messages.specs.Reading.{messageAt};
 use crate::Message;
@@ -79,6 +81,17 @@ pub fn number(message: Message) -> u64
     }
 }
 
+// A record of so many bits, with zero bits behind it up to 58.
+pub fn padded(width: usize, number: u64) -> u64
+    requires { ⌜ ((width ≡ 18) ⊎ (width ≡ 58)) × (number < 2 ^ width) ⌝ }
+    ensures { λ r. ⌜ r ≡ number * 2 ^ (58 - width) ⌝ }
+{
+    if width == 58 {
+        return number;
+    }
+    number * 1099511627776
+}
+
 // The message of a kind whose record stands at place.
 pub fn message(log: &[u8], place: usize, kind: u64) -> Message
     requires { ⌜ (kind ≡ field (now log) place 2) × (place + widthOf kind ≤ usableBits (length (now log))) ⌝ }
@@ -120,9 +133,17 @@ fn node(log: &[u8], place: usize) -> u8
 // A value in the log.
 fn value(log: &[u8], place: usize) -> i64
     requires { ⌜ place + 40 ≤ usableBits (length (now log)) ⌝ }
-    ensures { λ r. ⌜ r ≡ signed 40 (field (now (log .entry)) place 40) ⌝ }
+    ensures { λ r. ⌜ r ≡ Twos·signed 40 (field (now (log .entry)) place 40) ⌝ }
 {
-    match twos::decode(part(log, place, 40), 40) {
+    signed(part(log, place, 40))
+}
+
+// The value of 40 bits.
+pub fn signed(number: u64) -> i64
+    requires { ⌜ number < 2 ^ 40 ⌝ }
+    ensures { λ r. ⌜ r ≡ Twos·signed 40 number ⌝ }
+{
+    match twos::decode(number, 40) {
         twos::Decoded::Value(z) => z,
         twos::Decoded::Misfit => 0,
     }

@@ -1,5 +1,4 @@
--- The laws of a message as a number, of what a trace holds, and of how it is logged.
-pub mod Coding
+-- The laws of what a trace holds, and of how it is logged.
 pub mod Traced
 pub mod Whole
 pub mod Outcomes

@@ -1,5 +1,6 @@
 -- A trace holds the messages that were pushed; what one message more makes of its bits and of its record in the log.
 use mathlib.Core.Path.{_≡_, refl, sym, ap, ap₂, _∙_}
+use mathlib.Core.Bool.{true, false, and-false}
 use mathlib.Core.List.{List, [], _∷_, _++_, append-nil}
 use Prim.Native.Nat.{ℕ, zero, suc, _+_, _<_, _≤_}
 use native.Mathlib.Nat.{add-zero}
@@ -7,14 +8,15 @@ use native.Mathlib.Numerals.{add-one}
 use native.Mathlib.Omega.{arith}
 use lib.ListN.{getD, set, length, length-set}
 use lib.Seq.{getD-set-same, getD-set-other, append-snoc}
-use borrow.Author.Tests.{lt-ltb}
-use Rattle.messages.specs.Records.{bitsOf, Sized, AllSized}
+use borrow.Author.Tests.{lt-ltb, le-ltb}
+use Rattle.messages.specs.Records.{bitsOf, fits, Sized, AllSized, coded}
+use Rattle.messages.specs.Reading.{decoded}
 use Rattle.messages.specs.Writing.{writtenOf, logAfter, bitsOfAll}
 use Rattle.messages.specs.declared.Message.{Message}
 use Rattle.messages.specs.declared.Written.{Written}
-use Rattle.trace.specs.Traces.{coded, decoded, Trace, trace, pushed, pushedAll, messagesIn, messagesOf, Writing, writing, placed, noted, notedAll}
+use Rattle.trace.specs.Traces.{Trace, trace, pushed, pushedAll, messagesIn, messagesOf, Writing, writing, placed, noted, notedAll}
 use Rattle.trace.specs.Promises.{Trace-holds}
-use Rattle.trace.proofs.Coding.{coded-back}
+use Rattle.messages.proofs.Coding.{coded-back}
 
 -- ---- one message more
 
@@ -54,16 +56,24 @@ one-held ns k m sized h =
     rw add-one
     (ap₂ (λ (l : List Message) (p : Message). l ++ (p ∷ [])) (before-kept ns k (coded m) k (omega arith)) (ap decoded (getD-set-same ns k (coded m) 0 h) ∙ coded-back m sized))
 
-pushed-room : (m : Message) (ns : List ℕ) (k : ℕ) → k < 510 → pushed m (trace ns k) ≡ trace (set ns k (coded m)) (k + 1)
+pub pushed-room : (m : Message) (ns : List ℕ) (k : ℕ) → fits m ≡ true → k < 510 → pushed m (trace ns k) ≡ trace (set ns k (coded m)) (k + 1)
 unfolding pushed
-pushed-room m ns k h = rw (lt-ltb k 510 h)
+pushed-room m ns k f h = rw (f, lt-ltb k 510 h)
+
+pub pushed-full : (m : Message) (ns : List ℕ) (k : ℕ) → 510 ≤ k → pushed m (trace ns k) ≡ trace ns k
+unfolding pushed
+pushed-full m ns k h = rw (le-ltb k 510 h, and-false (fits m))
+
+pub pushed-misfit : (m : Message) (ns : List ℕ) (k : ℕ) → fits m ≡ false → pushed m (trace ns k) ≡ trace ns k
+unfolding pushed
+pushed-misfit m ns k f = rw f
 
 all-held : (ms : List Message) (ns : List ℕ) (k : ℕ) (t : Trace) → AllSized ms → length ns ≡ 510 → k + length ms ≤ 510 → t ≡ pushedAll ms (trace ns k)
     → (t .len ≡ k + length ms) × (messagesIn (t .numbers) (k + length ms) ≡ messagesIn ns k ++ ms)
 unfolding pushedAll
 all-held [] ns k t sized long h e = rw e (omega arith, rw (add-zero k) (sym (append-nil (messagesIn ns k))))
 all-held (m ∷ ms) ns k t (one, all) long h e =
-    let r = all-held ms (set ns k (coded m)) (k + 1) t all (length-set ns k (coded m) ∙ long) (omega arith) (e ∙ ap (pushedAll ms) (pushed-room m ns k (omega arith))) in
+    let r = all-held ms (set ns k (coded m)) (k + 1) t all (length-set ns k (coded m) ∙ long) (omega arith) (e ∙ ap (pushedAll ms) (pushed-room m ns k (one .2) (omega arith))) in
     let i : k + suc (length ms) ≡ k + 1 + length ms = omega arith in
     rw i (r .0, r .1 ∙ ap (λ l. l ++ ms) (one-held ns k m one (omega arith)) ∙ append-snoc (messagesIn ns k) m ms)
 

@@ -15,27 +15,22 @@ use Rattle.fields.specs.Usable.{usableBits}
 use Rattle.twos.specs.Twos.{signed, within}
 use Rattle.twos.proofs.Signs.{signed-mag}
 use Rattle.messages.specs.Records.{bitsOf, Sized, AllSized}
-use Rattle.messages.specs.Reading.{messageOf}
+use Rattle.messages.specs.Reading.{messageOf, decoded}
 use Rattle.messages.specs.Writing.{logAfter, logged, bitsOfAll}
 use Rattle.messages.specs.declared.Message.{Message}
 use Rattle.messages.specs.declared.Message.the-variants.{Probe, Response, Update, Release}
 use Rattle.messages.proofs.Answers.{answer-next}
 use Rattle.messages.proofs.Logs.{log-length-kept}
 use Rattle.messages.proofs.Stretches.{sized-append}
-use Rattle.trace.specs.Traces.{value, decoded, messagesIn, loggedOf, logAfterAll, toldLogged, Writing, writing, notedAll}
+use Rattle.trace.specs.Traces.{messagesIn, loggedOf, logAfterAll, toldLogged, Writing, writing, notedAll}
 use Rattle.trace.specs.Promises.{Logged-exactly, Full-exactly, Refused-log-kept}
 use Rattle.trace.specs.declared.Logged.{Logged}
 use Rattle.trace.specs.declared.Logged.the-variants.{Next, Full}
 
 -- ---- every message of a trace fits its record
 
-value-within : (n : ℕ) → within 40 (value n) ≡ true
-unfolding value
-value-within n = go (ltb n 1099511627776) refl
-  where
-    go : (b : Bool) → ltb n 1099511627776 ≡ b → within 40 (cond b (signed 40 n) (pos 0)) ≡ true
-    go true e = lt-ltb (mag (signed 40 n)) (2 ^ 39) (signed-mag 40 (omega arith) n (ltb-true n 1099511627776 e))
-    go false e = refl
+value-within : (n : ℕ) → n < 2 ^ 40 → within 40 (signed 40 n) ≡ true
+value-within n h = lt-ltb (mag (signed 40 n)) (2 ^ 39) (signed-mag 40 (omega arith) n h)
 
 message-sized : (kind a b : ℕ) (z : ℤ) → a < 256 → b < 256 → within 40 z ≡ true → Sized (messageOf kind a b z)
 unfolding messageOf
@@ -50,7 +45,7 @@ message-sized kind a b z ha hb h = go (eqb kind 0) (eqb kind 1) (eqb kind 2)
 decoded-sized : (n : ℕ) → Sized (decoded n)
 unfolding decoded
 decoded-sized n =
-    message-sized (n / 72057594037927936) (n / 281474976710656 % 256) (n / 1099511627776 % 256) (value (n % 1099511627776)) (omega arith) (omega arith) (value-within (n % 1099511627776))
+    message-sized (n / 72057594037927936) (n / 281474976710656 % 256) (n / 1099511627776 % 256) (signed 40 (n % 1099511627776)) (omega arith) (omega arith) (value-within (n % 1099511627776) (omega arith))
 
 pub messages-sized : (ns : List ℕ) (k : ℕ) → AllSized (messagesIn ns k)
 unfolding messagesIn

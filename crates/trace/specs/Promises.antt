@@ -5,14 +5,10 @@ use mathlib.Core.Logic.{_↔_}
 use Prim.Native.Nat.{ℕ, _+_, _≤_, _<_}
 use lib.ListN.{length}
 use Rattle.fields.specs.Usable.{usableBits}
-use Rattle.messages.specs.Records.{Sized, AllSized}
+use Rattle.messages.specs.Records.{AllSized}
 use Rattle.messages.specs.Writing.{bitsOfAll}
 use Rattle.messages.specs.declared.Message.{Message}
-use Rattle.trace.specs.Traces.{coded, decoded, trace, pushedAll, messagesOf, loggedOf, logAfterAll, toldLogged}
-
--- A message that fits its record is read back from its number.
-abbrev pub Coded-back : Type 0
-Coded-back = (m : Message) → Sized m → decoded (coded m) ≡ m
+use Rattle.trace.specs.Traces.{trace, pushedAll, messagesOf, loggedOf, logAfterAll, toldLogged}
 
 -- What was pushed to an empty trace, at most 510 messages that fit their records, is what it holds.
 abbrev pub Trace-holds : Type 0

@@ -1,39 +1,17 @@
--- A trace: the messages of a request as numbers, of kind, sender, receiver and the value's 40 bits; and the log that it is written to.
-use mathlib.Core.Bool.{cond}
+-- A trace: the messages of a request as numbers, and the log that it is written to.
+use mathlib.Core.Bool.{cond, _&&_}
 use mathlib.Core.List.{List, [], _∷_, _++_}
-use Prim.Native.Nat.{ℕ, zero, suc, _+_, _*_, _/_, _%_, min}
+use Prim.Native.Nat.{ℕ, zero, suc, _+_, min}
 use lib.Dec.{ltb}
-use lib.IntN.{ℤ, pos}
 use lib.ListN.{getD, set, length}
-use Rattle.twos.specs.Twos.{twos, signed, within}
-use Rattle.messages.specs.Reading.{messageOf}
+use Rattle.messages.specs.Records.{fits, coded}
+use Rattle.messages.specs.Reading.{decoded}
 use Rattle.messages.specs.Writing.{writtenOf, logAfter, logged, bitsOfAll, roomForAll}
 use Rattle.messages.specs.declared.Message.{Message}
-use Rattle.messages.specs.declared.Message.the-variants.{Probe, Response, Update, Release}
 use Rattle.messages.specs.declared.Written.{Written}
 use Rattle.messages.specs.declared.Written.the-variants.{Next, Full, Misfit}
 use Rattle.trace.specs.declared.Logged.{Logged}
 use Rattle.trace.specs.declared.Logged.the-variants as logging
-
-unfoldable pub number : ℕ → ℕ → ℕ → ℕ → ℕ
-number kind a b low = kind * 72057594037927936 + a * 281474976710656 + b * 1099511627776 + low
-
--- a value's 40 bits, 0 where it does not fit; and back
-unfoldable pub low : ℤ → ℕ
-low z = cond (within 40 z) (twos 40 z) 0
-
-unfoldable pub value : ℕ → ℤ
-value n = cond (ltb n 1099511627776) (signed 40 n) (pos 0)
-
--- the number of a message, and the message of a number
-unfoldable pub coded : Message → ℕ
-coded (Probe a b) = number 0 a b 0
-coded (Response a b z) = number 1 a b (low z)
-coded (Update a b z) = number 2 a b (low z)
-coded (Release a b) = number 3 a b 0
-
-unfoldable pub decoded : ℕ → Message
-decoded n = messageOf (n / 72057594037927936) (n / 281474976710656 % 256) (n / 1099511627776 % 256) (value (n % 1099511627776))
 
 -- room for 510 numbers, and how many of them count
 pub record Trace : Type 0 where
@@ -43,9 +21,9 @@ pub record Trace : Type 0 where
 abbrev pub trace : List ℕ → ℕ → Trace
 trace ns k = record { numbers = ns; len = k }
 
--- one message more, or none where the trace is full
+-- one message more; none where its value does not fit 40 bits, or the trace is full
 unfoldable pub pushed : Message → Trace → Trace
-pushed m t = cond (ltb (t .len) 510) (trace (set (t .numbers) (t .len) (coded m)) (t .len + 1)) t
+pushed m t = cond (fits m && ltb (t .len) 510) (trace (set (t .numbers) (t .len) (coded m)) (t .len + 1)) t
 
 unfoldable pub pushedAll : List Message → Trace → Trace
 pushedAll [] t = t

@@ -2,14 +2,12 @@
 //
 // Every public function is total: it takes whatever it is handed and has one outcome. A trace has room
 // for 510 messages, and of a length above that only 510 are ever used.
-mod code; // a message as a number
-
 ghost use mathlib.Core.Path.{_≡_};
 ghost use Prim.Native.Nat.{_≤_, min};
 ghost use lib.ListN.{length};
-ghost use Rattle.messages.specs.Records as records;
 ghost use Rattle.messages.specs.Writing.{bitsOfAll};
 ghost use Rattle.trace.specs.Traces as spec;
+use messages::Coded;
 use messages::Message;
 use messages::Written;
 
@@ -21,36 +19,19 @@ pub enum Logged {
     Full,
 }
 
-// One message more, or none where the trace is full.
+// One message more, and the length then. Where its value does not fit 40 bits, or the trace is full,
+// nothing is added, and the length is the one that was handed in.
 pub fn push(trace: &mut [u64; 510], len: usize, message: Message) -> usize
     ensures { λ r. ⌜ spec.trace (now (trace .exit)) r ≡ spec.pushed message (spec.trace (now (trace .entry)) len) ⌝ }
 {
-    let number = code::coded(message);
+    let Coded::Number(number) = messages::code(message) else {
+        return len;
+    };
     if len < 510 {
         trace[len] = number;
         return len + 1;
     }
     len
-}
-
-// The message of a number.
-pub fn decoded(number: u64) -> Message
-    ensures { λ r. ⌜ r ≡ spec.decoded number ⌝ }
-{
-    let kind = number / 72057594037927936;
-    let a = (number / 281474976710656 % 256) as u8;
-    let b = (number / 1099511627776 % 256) as u8;
-    let z = code::value(number % 1099511627776);
-    if kind == 0 {
-        return Message::Probe(a, b);
-    }
-    if kind == 1 {
-        return Message::Response(a, b, z);
-    }
-    if kind == 2 {
-        return Message::Update(a, b, z);
-    }
-    Message::Release(a, b)
 }
 
 // Logs the first len messages from place on, all of them or none.
@@ -75,7 +56,7 @@ fn bits(trace: &[u64; 510], len: usize) -> usize
     let mut bits = 0;
     let mut i: usize = 0;
     while i < end {
-        bits += width(decoded(trace[i]));
+        bits += messages::bits(messages::decode(trace[i]));
         i += 1;
     }
     bits
@@ -90,7 +71,7 @@ fn record(log: &mut [u8], place: usize, trace: &[u64; 510], len: usize) -> usize
     let mut at = place;
     let mut i: usize = 0;
     while i < end {
-        at = placed(messages::write(log, at, decoded(trace[i])), at);
+        at = placed(messages::write(log, at, messages::decode(trace[i])), at);
         i += 1;
     }
     at
@@ -111,17 +92,5 @@ fn placed(written: Written, place: usize) -> usize
         Written::Next(next) => next,
         Written::Full => place,
         Written::Misfit => place,
-    }
-}
-
-// How many bits the record of a message has.
-fn width(message: Message) -> usize
-    ensures { λ r. ⌜ (r ≡ records.bitsOf message) × (r ≤ 58) ⌝ }
-{
-    match message {
-        Message::Probe(_, _) => 18,
-        Message::Response(_, _, _) => 58,
-        Message::Update(_, _, _) => 58,
-        Message::Release(_, _) => 18,
     }
 }

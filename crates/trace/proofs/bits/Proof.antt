@@ -3,7 +3,9 @@ use mathlib.Core.Path.{_≡_, refl}
 use Prim.Native.Nat.{_*_, _-_, _≤_, min}
 use native.Mathlib.Omega.{arith}
 use borrow.Author.Needs.{needs}
+use Rattle.messages.specs.Records.{kindOf}
 use Rattle.messages.specs.Writing.{bitsOfAll}
+use Rattle.messages.proofs.Widths.{width-bounds}
 use Rattle.trace.specs.Traces.{messagesIn}
 use Rattle.trace.proofs.Traced.{bits-next}
 use Rattle.trace.proofs.bits.Statement.{statement}
@@ -22,20 +24,24 @@ loop-holds : tie.Need-loop-holds Inv-loop μ-loop
 unfolding messagesIn bitsOfAll
 loop-holds c = (omega arith, (omega arith, refl))
 
-mul-decoded : tie.Need-mul-decoded Inv-loop μ-loop
-mul-decoded c = search needs
+mul-decode : tie.Need-mul-decode Inv-loop μ-loop
+mul-decode c = search needs
 
-element-copy-out-decoded : tie.Need-element-copy-out-decoded Inv-loop μ-loop
-element-copy-out-decoded c = search needs
+element-copy-out-decode : tie.Need-element-copy-out-decode Inv-loop μ-loop
+element-copy-out-decode c = search needs
 
-decoded-requires : tie.Need-decoded-requires Inv-loop μ-loop
-decoded-requires c κs = search needs
+decode-requires : tie.Need-decode-requires Inv-loop μ-loop
+decode-requires c κs = search needs
 
-width-requires : tie.Need-width-requires Inv-loop μ-loop
-width-requires c κs = search needs
+bits-requires : tie.Need-bits-requires Inv-loop μ-loop
+bits-requires c κs = search needs
+
+-- a record has at most 58 bits
+at-most : (c : tie.After-bits Inv-loop μ-loop) → c .bits .result ≤ 58
+at-most c = omega (arith, c .bits .ensures, width-bounds (kindOf (c .before .decode .result)))
 
 add-bits : tie.Need-add-bits Inv-loop μ-loop
-add-bits c = search needs
+add-bits c = record { fits = omega (arith, at-most c) }
 
 add-i : tie.Need-add-i Inv-loop μ-loop
 add-i c = search needs
@@ -48,8 +54,8 @@ loop-again c =
     let l = c .before .before .before .before in (
       omega arith,
       (
-        omega (arith, c .width .ensures .1),
-        bits-next (l .before .before .args .trace .now) (l .loop .i) _ (c .before .decoded .ensures) _ _ (l .loop .inv .1 .1) (c .width .ensures .0),
+        omega (arith, at-most c),
+        bits-next (l .before .before .args .trace .now) (l .loop .i) _ (c .before .decode .ensures) _ _ (l .loop .inv .1 .1) (c .bits .ensures),
       ),
     )
 
@@ -66,10 +72,10 @@ bits-spec =
     μ-loop
     most-requires
     loop-holds
-    mul-decoded
-    element-copy-out-decoded
-    decoded-requires
-    width-requires
+    mul-decode
+    element-copy-out-decode
+    decode-requires
+    bits-requires
     add-bits
     add-i
     loop-less

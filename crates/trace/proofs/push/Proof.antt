@@ -1,12 +1,33 @@
--- `push` meets its contract: there is room for 510.
+-- `push` meets its contract: a message that has a number is added where there is room.
+use mathlib.Core.Path.{_≡_, refl, sym, ap, _∙_}
+use mathlib.Core.Bool.{true, false}
+use native.Mathlib.Nat.{suc-ne-zero}
+use Prim.Native.Nat.{ℕ}
 use borrow.Author.Needs.{needs}
-use borrow.Author.Tests.{lt-ltb, le-ltb}
-use Rattle.trace.specs.Traces.{pushed}
+use Rattle.messages.specs.Records.{fits, coded, codedOf, toldCoded}
+use Rattle.messages.specs.declared.Message.{Message}
+use Rattle.messages.specs.declared.Coded.{Coded}
+use Rattle.messages.specs.declared.Coded.the-variants.{Number, Misfit}
+use Rattle.messages.proofs.Answers.{coded-exactly, uncoded-exactly}
+use Rattle.trace.proofs.Traced.{pushed-room, pushed-full, pushed-misfit}
 use Rattle.trace.proofs.push.Statement.{statement}
 use Rattle.trace.proofs.push.Tie as tie
 
-coded-requires : tie.Need-coded-requires
-coded-requires c κs = search needs
+-- what coding has answered
+number : (m : Message) (n : ℕ) → Number n ≡ codedOf m → (fits m ≡ true) × (n ≡ coded m)
+number m n e = coded-exactly m n .0 (sym (ap toldCoded e))
+
+misfit : (m : Message) → Misfit ≡ codedOf m → fits m ≡ false
+misfit m e = uncoded-exactly m .0 (sym (ap toldCoded e))
+
+code-requires : tie.Need-code-requires
+code-requires c κs = search needs
+
+enum-known-number : tie.Need-enum-known-number
+enum-known-number c = search needs
+
+enum-told : tie.Need-enum-told
+enum-told c = search needs
 
 mul-trace : tie.Need-mul-trace
 mul-trace c = search needs
@@ -18,13 +39,26 @@ add-result : tie.Need-add-result
 add-result c = search needs
 
 returns : tie.Need-returns
-unfolding pushed
-returns c = rw (lt-ltb _ _ (c .if1 .taken), ← c .before .coded .ensures)
+returns c = sym (pushed-misfit _ _ _ (misfit _ (sym (c .enum-told .given .1) ∙ c .before .before .code .ensures)))
 
 returns-2 : tie.Need-returns-2
-unfolding pushed
-returns-2 c = rw (le-ltb _ _ (c .if1 .left))
+returns-2 c =
+    let n = number _ _ (sym (c .before .before .number .given .1) ∙ c .before .before .before .before .code .ensures) in
+    rw (n .1) (sym (pushed-room _ _ _ (n .0) (c .if1 .taken)))
+
+returns-3 : tie.Need-returns-3
+returns-3 c = sym (pushed-full _ _ _ (c .if1 .left))
 
 pub push-spec : {M : Type 1} → statement M
 push-spec =
-    tie.close (tie.spec coded-requires mul-trace element-write-trace add-result returns returns-2)
+    tie.close
+    (tie.spec
+    code-requires
+    enum-known-number
+    enum-told
+    returns
+    mul-trace
+    element-write-trace
+    add-result
+    returns-2
+    returns-3)

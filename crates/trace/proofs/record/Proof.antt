@@ -22,14 +22,14 @@ loop-holds : tie.Need-loop-holds Inv-loop μ-loop
 unfolding messagesIn notedAll
 loop-holds c = (omega arith, (refl, refl))
 
-mul-decoded : tie.Need-mul-decoded Inv-loop μ-loop
-mul-decoded c = search needs
+mul-decode : tie.Need-mul-decode Inv-loop μ-loop
+mul-decode c = search needs
 
-element-copy-out-decoded : tie.Need-element-copy-out-decoded Inv-loop μ-loop
-element-copy-out-decoded c = search needs
+element-copy-out-decode : tie.Need-element-copy-out-decode Inv-loop μ-loop
+element-copy-out-decode c = search needs
 
-decoded-requires : tie.Need-decoded-requires Inv-loop μ-loop
-decoded-requires c κs = search needs
+decode-requires : tie.Need-decode-requires Inv-loop μ-loop
+decode-requires c κs = search needs
 
 write-requires : tie.Need-write-requires Inv-loop μ-loop
 write-requires c κs = search needs
@@ -50,7 +50,7 @@ loop-again c =
       omega arith,
       (
         w .kept .0 ∙ l .loop .inv .1 .0,
-        noted-next (l .before .before .before .args .trace .now) (l .loop .i) _ (c .before .before .before .before .decoded .ensures) _ (l .loop .inv .1 .1) (w .ensures .0) (w .ensures .1) (c .placed .ensures),
+        noted-next (l .before .before .before .args .trace .now) (l .loop .i) _ (c .before .before .before .before .decode .ensures) _ (l .loop .inv .1 .1) (w .ensures .0) (w .ensures .1) (c .placed .ensures),
       ),
     )
 
@@ -70,9 +70,9 @@ record-spec =
     μ-loop
     most-requires
     loop-holds
-    mul-decoded
-    element-copy-out-decoded
-    decoded-requires
+    mul-decode
+    element-copy-out-decode
+    decode-requires
     write-requires
     placed-requires
     add-i

@@ -18,14 +18,14 @@ abbrev μ-loop : tie.MeasureT-loop
 loop-holds : tie.Need-loop-holds Inv-loop μ-loop
 loop-holds c = (omega arith, done-none _ _ (c .pre .1))
 
-mul-decoded : tie.Need-mul-decoded Inv-loop μ-loop
-mul-decoded c = search needs
+mul-decode : tie.Need-mul-decode Inv-loop μ-loop
+mul-decode c = search needs
 
-element-copy-out-decoded : tie.Need-element-copy-out-decoded Inv-loop μ-loop
-element-copy-out-decoded c = search needs
+element-copy-out-decode : tie.Need-element-copy-out-decode Inv-loop μ-loop
+element-copy-out-decode c = search needs
 
-decoded-requires : tie.Need-decoded-requires Inv-loop μ-loop
-decoded-requires c κs = search needs
+decode-requires : tie.Need-decode-requires Inv-loop μ-loop
+decode-requires c κs = search needs
 
 add-k : tie.Need-add-k Inv-loop μ-loop
 add-k c = search needs
@@ -48,7 +48,7 @@ loop-again : tie.Need-loop-again Inv-loop μ-loop
 loop-again c =
     let t = c .before .before .before .before .before in
     let l = t .before .before .before .before .before in
-    (omega arith, done-more (l .loop .inv .1) _ (t .before .before .decoded .ensures) _ (step-up _ _ _ _ _ (t .before .from .ensures .0) (t .to .ensures .0) (c .before .before .before .before .if1 .taken) (c .hit .ensures)))
+    (omega arith, done-more (l .loop .inv .1) _ (t .before .before .decode .ensures) _ (step-up _ _ _ _ _ (t .before .from .ensures .0) (t .to .ensures .0) (c .before .before .before .before .if1 .taken) (c .hit .ensures)))
 
 hit-requires-2 : tie.Need-hit-requires-2 Inv-loop μ-loop
 hit-requires-2 c κs =
@@ -62,7 +62,7 @@ loop-again-2 : tie.Need-loop-again-2 Inv-loop μ-loop
 loop-again-2 c =
     let t = c .before .before .before .before .before in
     let l = t .before .before .before .before .before in
-    (omega arith, done-more (l .loop .inv .1) _ (t .before .before .decoded .ensures) _ (step-down _ _ _ _ _ (t .before .from .ensures .0) (t .to .ensures .0) (c .before .before .before .before .if1 .left) (c .hit2 .ensures)))
+    (omega arith, done-more (l .loop .inv .1) _ (t .before .before .decode .ensures) _ (step-down _ _ _ _ _ (t .before .from .ensures .0) (t .to .ensures .0) (c .before .before .before .before .if1 .left) (c .hit2 .ensures)))
 
 returns : tie.Need-returns Inv-loop μ-loop
 returns c =
@@ -76,9 +76,9 @@ apply-spec =
     Inv-loop
     μ-loop
     loop-holds
-    mul-decoded
-    element-copy-out-decoded
-    decoded-requires
+    mul-decode
+    element-copy-out-decode
+    decode-requires
     add-k
     from-requires
     to-requires
