@@ -376,8 +376,7 @@ class Cases:
         return bytes(self.draw(256) for _ in range(length))
 
     def add(self, letter, line, numbers=(), data=b""):
-        words = [number.to_bytes(8, "big") for number in (*numbers, 0, 0, 0)[:3]]
-        self.data.append(letter.encode() + len(data).to_bytes(3, "big") + b"".join(words) + data)
+        self.data.append(outside.handed(letter, numbers, data))
         self.lines.append(line)
 
     def field(self, place, width, value, data):
@@ -423,8 +422,8 @@ class Cases:
         self.add("N", list_run(data, place, room, places, asked), (len(data), place, room + places * 2**32), data + asked)
 
     def vector(self, case):
-        data, asked = (case.get(name, b"") for name in outside.BYTES)
-        self.add("V", vector(case), (len(data), int("log.hex" in case)), data + asked)
+        self.data.append(outside.question(case))
+        self.lines.append(vector(case))
 
     def tree_of(self, count):
         return [self.draw(child) for child in range(1, count)]
@@ -632,7 +631,7 @@ def runs(cases):
 def vectors(cases):
     """All that the program has room for."""
     for case in outside.read().values():
-        if sum(len(case.get(name, b"")) for name in outside.BYTES) <= 65600:
+        if outside.size(case) <= outside.ROOM:
             cases.vector(case)
 
 

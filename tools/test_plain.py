@@ -6,18 +6,15 @@
 
 It takes some seconds, and leaves nothing behind."""
 
-import argparse
 import collections
-import contextlib
-import io
 import pathlib
 import subprocess
 import sys
-import tempfile
 import unittest
 
 sys.dont_write_bytecode = True
 import plain
+import testing
 import vectors
 import wrong_texts
 
@@ -29,11 +26,8 @@ BYTES = vectors.BYTES
 
 
 def run(*arguments):
-    """The exit status of a command, its lines on standard output, and its text on standard error."""
-    out, error = io.StringIO(), io.StringIO()
-    with contextlib.redirect_stdout(out), contextlib.redirect_stderr(error):
-        status = plain.main([str(argument) for argument in arguments])
-    return status, out.getvalue().splitlines(), error.getvalue()
+    """What a command of the script comes to."""
+    return testing.run(plain.main, *arguments)
 
 
 def held(folder):
@@ -46,19 +40,7 @@ def width(message):
     return 58 if len(message.split()) == 4 else 18
 
 
-class Case(unittest.TestCase):
-    @classmethod
-    def setUpClass(cls):
-        cls.vectors = vectors.read()
-
-    def folder(self, files):
-        """A new folder with some files, of bytes or of text."""
-        made = tempfile.TemporaryDirectory()
-        self.addCleanup(made.cleanup)
-        for name, content in files.items():
-            pathlib.Path(made.name, name).write_bytes(content.encode() if isinstance(content, str) else content)
-        return pathlib.Path(made.name)
-
+class Case(testing.Case):
     def example(self, name, names):
         return {file: (HOUSE / "examples" / name / file).read_bytes() for file in names}
 
@@ -188,7 +170,7 @@ class Log(Case):
 
     def star(self):
         """What document 01 says of the star's first combine and last write, and the bits that they log."""
-        logs = [line.split() for line in self.vectors["edges/edge-star"]["log.hex"]]
+        logs = [line.split() for line in self.vectors["edges.txt/edge-star"]["log.hex"]]
         first = ["probe 1 0", "probe 0 2", "response 2 0 0", "probe 0 3", "response 3 0 0", "response 0 1 0"]
         last = ["update 3 0 1", "update 0 1 5", "release 1 0"]
         return [(lines, int(bits), bytes.fromhex(data)) for lines, (_, bits, data) in ((first, logs[0]), (last, logs[3]))]
@@ -258,9 +240,9 @@ class Command(Case):
 class Vectors(Case):
     def test_all_are_there(self):
         groups = collections.Counter(name.split("/")[0] for name in self.vectors)
-        self.assertEqual(groups, {"edges": 47, "good": 100, "damaged": 100})
+        self.assertEqual(groups, {"edges.txt": 47, "good.txt": 100, "damaged.txt": 100})
         self.assertTrue(all({"expected"} <= set(case) <= {*BYTES, "expected", "log.hex"} for case in self.vectors.values()))
-        self.assertEqual(self.vectors["edges/edge-rounds-1365"]["expected"][-1], "total 6825")
+        self.assertEqual(self.vectors["edges.txt/edge-rounds-1365"]["expected"][-1], "total 6825")
 
 
 class Program(Case):
@@ -287,11 +269,5 @@ class Program(Case):
 
 
 if __name__ == "__main__":
-    parser = argparse.ArgumentParser(description=__doc__, formatter_class=argparse.RawDescriptionHelpFormatter)
-    parser.add_argument("--program", type=pathlib.Path, metavar="PATH")
-    known, rest = parser.parse_known_args()
-    if known.program:
-        PROGRAM = known.program.resolve()
-        if not PROGRAM.exists():
-            sys.exit(f"{PROGRAM}: is not there")
-    unittest.main(argv=[sys.argv[0], *rest])
+    PROGRAM = testing.program(__doc__, PROGRAM)
+    unittest.main()
