@@ -12,7 +12,7 @@ use Rattle.session.specs.Holding.{Typed}
 use Rattle.session.specs.Soundness.{Sound}
 use Rattle.session.specs.declared.Session.{Session}
 use Rattle.mechanism.specs.Views.{view}
-use Rattle.mechanism.specs.Applying.{Links, applied, raised}
+use Rattle.mechanism.specs.Applying.{Links, applied, upRaised, downRaised, raised}
 use Rattle.mechanism.specs.Requests.{nodeOf, Small, combines, writes, linksOf, afterCombine, afterWrite, says, after}
 use Rattle.mechanism.proofs.After.{wide}
 use Rattle.mechanism.proofs.Cells.{wide-applied}
@@ -20,7 +20,7 @@ use Rattle.mechanism.proofs.Valued.{valued-sound, valued-typed}
 use Rattle.walk.proofs.Fitting.{sound-fit}
 use Rattle.walk.proofs.Starting.{sound-steady}
 use Rattle.aggregate.specs.Serving.{refusedOutcome, refused}
-use Rattle.aggregate.specs.Afters.{pairsOf, Climbing, upRaised, downRaised}
+use Rattle.aggregate.specs.Afters.{pairsOf, Climbing}
 use Rattle.aggregate.specs.Acts.{requestAt, servedAs, Servable, begun, walked, Walkable, upSettled, downSettled}
 use Rattle.aggregate.specs.declared.Outcome.{Outcome}
 use Rattle.aggregate.specs.declared.Served.{Served}

@@ -8,11 +8,13 @@ use native.Mathlib.Numerals.{add-one}
 use lib.Dec.{ltb}
 use lib.ListN.{getD, set}
 use borrow.Author.Tests.{lt-ltb, le-ltb}
+use Rattle.messages.specs.Reading.{decoded}
 use Rattle.messages.specs.declared.Message.{Message}
 use Rattle.messages.specs.declared.Message.the-variants.{Probe, Response, Update, Release}
+use Rattle.session.specs.Holding.{pairAt}
 use Rattle.session.specs.declared.Pairs.{Pairs}
 use Rattle.mechanism.specs.Applying.{fromOf, toOf, Cell, hit, readAt, storeAt, Links, cell, putIf, put, stepped, applied}
-use Rattle.messages.specs.Reading.{decoded}
+use Rattle.mechanism.proofs.Cells.{cell-by}
 use Rattle.trace.specs.Traces.{messagesIn}
 use Rattle.aggregate.specs.Afters.{Counts}
 
@@ -20,11 +22,11 @@ use Rattle.aggregate.specs.Afters.{Counts}
 
 module _ (l : Links) (m : Message) (p : Pairs) (u v : ℕ) (from : u ≡ fromOf m) (to : v ≡ toOf m) where
   pub step-up : v < u → p ≡ storeAt (l .up) u (hit m (readAt (l .up) u)) → record { up = p; down = l .down } ≡ stepped m l
-  unfolding put cell
+  unfolding put cell pairAt
   step-up h e = rw (← from, ← to, lt-ltb v u h, e)
 
   pub step-down : u ≤ v → p ≡ storeAt (l .down) v (hit m (readAt (l .down) v)) → record { up = l .up; down = p } ≡ stepped m l
-  unfolding put cell
+  unfolding put cell pairAt
   step-down h e = rw (← from, ← to, le-ltb v u h, e)
 
 -- ---- a count grows by one
@@ -47,8 +49,8 @@ sent-one (Update a b z) c = refl
 sent-one (Release a b) c = refl
 
 counts-step : (j : ℕ) (m : Message) (l : Links) → Counts j l → Counts (j + 1) (stepped m l)
-unfolding put cell
-counts-step j m l h = go (ltb (toOf m) (fromOf m))
+unfolding put
+counts-step j m l h = rw (cell-by l (fromOf m) (toOf m)) (go (ltb (toOf m) (fromOf m)))
   where
     go : (s : Bool) → Counts (j + 1) (putIf s l (fromOf m) (toOf m) (hit m (cond s (readAt (l .up) (fromOf m)) (readAt (l .down) (toOf m)))))
     go true =

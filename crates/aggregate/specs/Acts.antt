@@ -13,11 +13,11 @@ use Rattle.session.specs.declared.Session.{Session}
 use Rattle.mechanism.specs.Views.{View}
 use Rattle.mechanism.specs.Combining.{Said, said, combine}
 use Rattle.mechanism.specs.Spreading.{write}
+use Rattle.mechanism.specs.Applying.{upRaised, downRaised}
 use Rattle.trace.specs.Traces.{Trace, pushedAll}
 use Rattle.walk.specs.Asking.{Fit}
 use Rattle.walk.specs.Links.{Linked}
 use Rattle.walk.specs.Telling.{Steady}
-use Rattle.aggregate.specs.Afters.{upRaised, downRaised}
 use Rattle.aggregate.specs.declared.Outcome.{Outcome}
 use Rattle.aggregate.specs.declared.Served.{Served}
 use Rattle.aggregate.specs.declared.act.Act.{Act}

@@ -4,10 +4,9 @@ use mathlib.Core.List.{List}
 use Prim.Native.Nat.{ℕ, _<_, _≤_}
 use lib.IntN.{ℤ}
 use lib.ListN.{getD, length}
-use Rattle.tree.specs.Parents.{parent, Grown}
-use Rattle.tree.specs.Sides.{pointsTo}
+use Rattle.tree.specs.Parents.{Grown}
 use Rattle.session.specs.declared.Pairs.{Pairs}
-use Rattle.mechanism.specs.Applying.{Links, raisedAt}
+use Rattle.mechanism.specs.Applying.{Links}
 
 -- the pairs of a direction, and of both, by their arrays
 abbrev pub pairsOf : List ℕ → List ℤ → List ℕ → Pairs
@@ -28,10 +27,3 @@ pub record Climbing (ps : List ℕ) (n x : ℕ) (up down : List ℕ) : Type 0 wh
   pub inside : x < n
   pub up-long : length up ≡ 256
   pub down-long : length down ≡ 256
-
--- the numbers of the pairs that point to x become b
-unfoldable pub upRaised : List ℕ → ℕ → ℕ → ℕ → List ℕ → List ℕ
-upRaised ps n b x l = raisedAt n (λ i. pointsTo ps i (parent ps i) x) b l
-
-unfoldable pub downRaised : List ℕ → ℕ → ℕ → ℕ → List ℕ → List ℕ
-downRaised ps n b x l = raisedAt n (λ i. pointsTo ps (parent ps i) i x) b l

@@ -19,7 +19,8 @@ use Rattle.session.specs.Soundness.{Sound}
 use Rattle.session.specs.declared.Session.{Session}
 use Rattle.mechanism.specs.Applying.{Cell, hit, cell, applied}
 use Rattle.mechanism.specs.Requests.{combines, writes, linksOf, afterCombine, afterWrite}
-use Rattle.mechanism.specs.Pairwise.{about, moves, pays, replyOf, tellOf, released, Pair}
+use Rattle.mechanism.specs.Spreading.{released}
+use Rattle.mechanism.specs.Pairwise.{about, moves, pays, replyOf, tellOf, Pair}
 use Rattle.mechanism.specs.Promises.{Cell-after}
 use Rattle.mechanism.proofs.Owned.{Owned, owned}
 use Rattle.mechanism.proofs.Says.{lemma-4-1}

@@ -7,13 +7,13 @@ use native.Mathlib.Decide.{ℕ-discrete}
 use native.Mathlib.Omega.{arith}
 use lib.Dec.{eqb, ltb}
 use lib.IntN.{ℤ, pos}
-use lib.ListN.{length-set}
+use lib.ListN.{getD, length-set}
 use lib.Seq.{getD-set-same, getD-set-other}
 use borrow.Author.Tests.{eqb-true, eq-eqb, ne-eqb}
 use Rattle.tree.specs.Tours.{kept}
 use Rattle.tree.proofs.Cases.{either}
 use Rattle.messages.specs.declared.Message.{Message}
-use Rattle.session.specs.Holding.{Long}
+use Rattle.session.specs.Holding.{pairAt, Long}
 use Rattle.session.specs.declared.Pairs.{Pairs}
 use Rattle.mechanism.specs.Applying.{fromOf, toOf, Cell, hit, readAt, storeAt, Links, cell, putIf, put, applied}
 
@@ -84,10 +84,22 @@ module _ (l : Links) (u v : ℕ) where
       go true = record { up-long = long-stored (l .up) u c (h .up-long); down-long = h .down-long }
       go false = record { up-long = h .up-long; down-long = long-stored (l .down) v c (h .down-long) }
 
-  -- the cell of a pair is the entry that it has
+  -- the cell of a pair is the entry at the child's place
+  pub cell-by : cell l u v ≡ cond (ltb v u) (readAt (l .up) u) (readAt (l .down) v)
+  unfolding cell pairAt
+  cell-by = go (ltb v u)
+    where
+      go : (t : Bool) → record {
+        lease = cond t (getD (l .up .lease) u 0) (getD (l .down .lease) v 0);
+        cache = cond t (getD (l .up .cache) u (pos 0)) (getD (l .down .cache) v (pos 0));
+        sent = cond t (getD (l .up .messages) u 0) (getD (l .down .messages) v 0);
+      }
+          ≡ cond t (readAt (l .up) u) (readAt (l .down) v)
+      go true = refl
+      go false = refl
+
   meets-cell : (t : Bool) (i : ℕ) → meets u v t i ≡ true → cell l u v ≡ readAt (way t l) i
-  unfolding cell
-  meets-cell t i = go (ltb v u) t
+  meets-cell t i e = cell-by ∙ go (ltb v u) t e
     where
       go : (s t : Bool) → cond s (t && eqb u i) (not t && eqb v i) ≡ true → cond s (readAt (l .up) u) (readAt (l .down) v) ≡ readAt (way t l) i
       go true true e = rw (eqb-true u i e)

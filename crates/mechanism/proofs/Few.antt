@@ -17,7 +17,8 @@ use Rattle.session.specs.Soundness.{Sound}
 use Rattle.session.specs.declared.Session.{Session}
 use Rattle.mechanism.specs.Views.{view}
 use Rattle.mechanism.specs.Requests.{valued, combines, writes}
-use Rattle.mechanism.specs.Pairwise.{replyOf, tellOf, released}
+use Rattle.mechanism.specs.Spreading.{released}
+use Rattle.mechanism.specs.Pairwise.{replyOf, tellOf}
 use Rattle.mechanism.specs.Promises.{Few-messages}
 use Rattle.mechanism.proofs.Asking.{asks, probes, responses}
 use Rattle.mechanism.proofs.Telling.{tells, updates, releases}

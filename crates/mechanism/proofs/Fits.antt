@@ -22,7 +22,8 @@ use Rattle.session.specs.declared.Session.{Session}
 use Rattle.mechanism.specs.Views.{view}
 use Rattle.mechanism.specs.Requests.{valued, says}
 use Rattle.mechanism.specs.Refusals.{allFit}
-use Rattle.mechanism.specs.Pairwise.{replyOf, tellOf, released, Pair}
+use Rattle.mechanism.specs.Spreading.{released}
+use Rattle.mechanism.specs.Pairwise.{replyOf, tellOf, Pair}
 use Rattle.mechanism.specs.Promises.{Messages-fit, Never-misfit, Log-is-request, Sum-ranging, Sum-plain, Sum-written}
 use Rattle.mechanism.proofs.Others.{size-most}
 use Rattle.mechanism.proofs.Asking.{asks, probes, responses}

@@ -1,28 +1,15 @@
 -- The cell of a pair is what the session holds of it.
 use mathlib.Core.Path.{_≡_, refl, sym, ap, _∙_}
-use mathlib.Core.Bool.{Bool, true, false, cond}
 use Prim.Native.Nat.{ℕ}
-use lib.Dec.{ltb}
-use lib.IntN.{pos}
-use lib.ListN.{getD}
-use Rattle.session.specs.Holding.{pairAt, leaseOf, cacheOf, sentOf}
+use Rattle.session.specs.Holding.{leaseOf, cacheOf, sentOf}
 use Rattle.session.specs.declared.Session.{Session}
-use Rattle.mechanism.specs.Applying.{Cell, readAt, cell}
+use Rattle.mechanism.specs.Applying.{Cell, cell}
 use Rattle.mechanism.specs.Requests.{linksOf}
 
 module _ (s : Session) (u v : ℕ) where
   pub cell-is : cell (linksOf s) u v ≡ record { lease = leaseOf s u v; cache = cacheOf s u v; sent = sentOf s u v }
-  unfolding cell pairAt
-  cell-is = go (ltb v u)
-    where
-      go : (t : Bool) → cond t (readAt (s .up) u) (readAt (s .down) v)
-          ≡ record {
-            lease = cond t (getD (s .up .lease) u 0) (getD (s .down .lease) v 0);
-            cache = cond t (getD (s .up .cache) u (pos 0)) (getD (s .down .cache) v (pos 0));
-            sent = cond t (getD (s .up .messages) u 0) (getD (s .down .messages) v 0);
-          }
-      go true = refl
-      go false = refl
+  unfolding cell
+  cell-is = refl
 
   -- the same, field by field
   pub lease-held : {c : Cell} → cell (linksOf s) u v ≡ c → leaseOf s u v ≡ c .lease

@@ -14,7 +14,8 @@ use Rattle.session.specs.declared.Session.{Session}
 use Rattle.mechanism.specs.Views.{view}
 use Rattle.mechanism.specs.Applying.{fromOf, toOf}
 use Rattle.mechanism.specs.Requests.{valued, nodeOf, says}
-use Rattle.mechanism.specs.Pairwise.{released, Pair}
+use Rattle.mechanism.specs.Spreading.{released}
+use Rattle.mechanism.specs.Pairwise.{Pair}
 use Rattle.mechanism.proofs.Asking.{asks, probes, responses}
 use Rattle.mechanism.proofs.Telling.{tells, updates, releases}
 use Rattle.mechanism.proofs.Walks.{combines-tour, writes-tour}

@@ -13,9 +13,9 @@ use Rattle.tree.specs.Parents.{parent}
 use Rattle.tree.specs.Sides.{adjacent, pointsTo}
 use Rattle.tree.proofs.Cases.{order}
 use Rattle.tree.proofs.Toward.{adjacent-ne}
-use Rattle.session.specs.Holding.{Long}
+use Rattle.session.specs.Holding.{pairAt, Long}
 use Rattle.session.specs.declared.Pairs.{Pairs}
-use Rattle.mechanism.specs.Applying.{readAt, Links, cell, each, raisedIf, raised}
+use Rattle.mechanism.specs.Applying.{readAt, Links, cell, each, raisedAt, upRaised, downRaised, renumbered, raised}
 use Rattle.mechanism.proofs.Cells.{Wide, way, same-cell}
 
 module _ {A : Type 0} (g : ℕ → A → A) where
@@ -31,16 +31,16 @@ module _ {A : Type 0} (g : ℕ → A → A) where
   each-read d i (suc j) (a ∷ l) h = each-read d (suc i) j l (le-of-suc-le-suc h) ∙ ap (λ k. g k (getD l j d)) (suc-add i j ∙ sym (add-suc i j))
 
 module _ (n : ℕ) (points : ℕ → Bool) (b : ℕ) (p : Pairs) (h : Long p) where
-  long-raised : Long (raisedIf n points b p)
+  long-raised : Long (renumbered (raisedAt n points b (p .lease)) p)
   long-raised = record { leases = each-length _ 0 (p .lease) ∙ h .leases; caches = h .caches; counts = h .counts }
 
-  at-place : (i : ℕ) → i < 256 → getD (raisedIf n points b p .lease) i 0 ≡ cond ((ltb 0 i && ltb i n) && points i) b (getD (p .lease) i 0)
+  at-place : (i : ℕ) → i < 256 → getD (raisedAt n points b (p .lease)) i 0 ≡ cond ((ltb 0 i && ltb i n) && points i) b (getD (p .lease) i 0)
   at-place i l = each-read (λ i k. cond ((ltb 0 i && ltb i n) && points i) b k) 0 0 i (p .lease) (omega (arith, h .leases)) ∙ rw zero-add
 
-  lifted : (i : ℕ) → i < 256 → 0 < i → i < n → getD (raisedIf n points b p .lease) i 0 ≡ cond (points i) b (getD (p .lease) i 0)
+  lifted : (i : ℕ) → i < 256 → 0 < i → i < n → getD (raisedAt n points b (p .lease)) i 0 ≡ cond (points i) b (getD (p .lease) i 0)
   lifted i l z m = at-place i l ∙ rw (lt-ltb 0 i z, lt-ltb i n m)
 
-  left-alone : (i : ℕ) → i < 256 → (i ≡ 0) ⊎ (n ≤ i) → readAt (raisedIf n points b p) i ≡ readAt p i
+  left-alone : (i : ℕ) → i < 256 → (i ≡ 0) ⊎ (n ≤ i) → readAt (renumbered (raisedAt n points b (p .lease)) p) i ≡ readAt p i
   left-alone i l u = same-cell _ _ _ _ _ _ (at-place i l ∙ ap (λ (t : Bool). cond (t && points i) b (getD (p .lease) i 0)) (idle u)) refl refl
     where
       idle : (i ≡ 0) ⊎ (n ≤ i) → (ltb 0 i && ltb i n) ≡ false
@@ -49,12 +49,12 @@ module _ (n : ℕ) (points : ℕ → Bool) (b : ℕ) (p : Pairs) (h : Long p) wh
 
 module _ (ps : List ℕ) (n b x : ℕ) (l : Links) (h : Wide l) where
   pub wide-raised : Wide (raised ps n b x l)
-  unfolding raised
+  unfolding raised upRaised downRaised
   wide-raised = record { up-long = long-raised n _ b (l .up) (h .up-long); down-long = long-raised n _ b (l .down) (h .down-long) }
 
   pub cell-raised : (u v : ℕ) → u < n → v < n → n ≤ 256 → adjacent ps v u ≡ true
       → cell (raised ps n b x l) u v ≡ record { lease = cond (pointsTo ps u v x) b (cell l u v .lease); cache = cell l u v .cache; sent = cell l u v .sent }
-  unfolding cell raised
+  unfolding cell pairAt raised upRaised downRaised
   cell-raised u v hu hv hn a = order u v
       (λ o. let e : parent ps v ≡ u = eqb-true (parent ps v) u (rw (le-ltb v u (omega arith), lt-ltb u v o) at a) in
       rw (le-ltb v u (omega arith), lifted n (λ i. pointsTo ps (parent ps i) i x) b (l .down) (h .down-long) v (omega arith) (omega arith) hv, e))
@@ -63,6 +63,6 @@ module _ (ps : List ℕ) (n b x : ℕ) (l : Links) (h : Wide l) where
       rw (lt-ltb v u o, lifted n (λ i. pointsTo ps i (parent ps i) x) b (l .up) (h .up-long) u (omega arith) (omega arith) hu, e))
 
   pub idle-raised : (t : Bool) (i : ℕ) → i < 256 → (i ≡ 0) ⊎ (n ≤ i) → readAt (way t (raised ps n b x l)) i ≡ readAt (way t l) i
-  unfolding raised
+  unfolding raised upRaised downRaised
   idle-raised true i m u = left-alone n _ b (l .up) (h .up-long) i m u
   idle-raised false i m u = left-alone n _ b (l .down) (h .down-long) i m u

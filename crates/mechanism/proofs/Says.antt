@@ -18,7 +18,8 @@ use Rattle.session.specs.Soundness.{Sound}
 use Rattle.session.specs.declared.Session.{Session}
 use Rattle.mechanism.specs.Views.{view}
 use Rattle.mechanism.specs.Requests.{valued}
-use Rattle.mechanism.specs.Pairwise.{about, replyOf, tellOf, released}
+use Rattle.mechanism.specs.Spreading.{released}
+use Rattle.mechanism.specs.Pairwise.{about, replyOf, tellOf}
 use Rattle.mechanism.specs.Promises.{Lemma-4-1}
 use Rattle.mechanism.proofs.Asking.{asks, probes, responses}
 use Rattle.mechanism.proofs.Telling.{tells, updates, releases}

@@ -18,7 +18,7 @@ use Rattle.session.specs.declared.Session.{Session}
 use Rattle.mechanism.specs.Applying.{fromOf, toOf, readAt, Links, cell, applied}
 use Rattle.mechanism.specs.Pairwise.{about, Pair}
 use Rattle.mechanism.proofs.Owned.{Owned}
-use Rattle.mechanism.proofs.Cells.{Wide, way, touches, hits, entry-applied}
+use Rattle.mechanism.proofs.Cells.{Wide, way, touches, hits, cell-by, entry-applied}
 
 -- (u,v) and (a,b) share their entry
 abbrev slot : ℕ → ℕ → ℕ → ℕ → Bool
@@ -59,9 +59,11 @@ kept-none (m ∷ ms) = kept-none ms
 module _ (s : Session) (ms : List Message) (owned : Owned s ms) (l : Links) (wide : Wide l) (few : s .tree .count ≤ 256) where
   -- the cell of a pair is what its own messages make of it
   pub cell-applied : (u v : ℕ) → Pair s u v → cell (applied ms l) u v ≡ hits (kept (about u v) ms) (cell l u v)
-  unfolding cell
-  cell-applied u v p = go (ltb v u) ∙ ap (λ k. hits k (cell l u v))
-      (kept-same s _ (about u v) (λ m q. slot-is (s .tree .parents) (fromOf m) (toOf m) u v (q .edge) (p .edge)) ms owned)
+  cell-applied u v p =
+      rw (cell-by (applied ms l) u v, cell-by l u v)
+      (go (ltb v u)
+      ∙ ap (λ k. hits k (cond (ltb v u) (readAt (l .up) u) (readAt (l .down) v)))
+      (kept-same s _ (about u v) (λ m q. slot-is (s .tree .parents) (fromOf m) (toOf m) u v (q .edge) (p .edge)) ms owned))
     where
       go : (t : Bool) → cond t (readAt (applied ms l .up) u) (readAt (applied ms l .down) v)
           ≡ hits (kept (λ m. cond (ltb (toOf m) (fromOf m)) (t && eqb (fromOf m) u) (not t && eqb (toOf m) v)) ms) (cond t (readAt (l .up) u) (readAt (l .down) v))

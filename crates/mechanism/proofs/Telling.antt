@@ -22,8 +22,8 @@ use Rattle.tree.proofs.Turns.{round-same}
 use Rattle.messages.specs.declared.Message.{Message}
 use Rattle.messages.specs.declared.Message.the-variants.{Update}
 use Rattle.mechanism.specs.Views.{View}
-use Rattle.mechanism.specs.Spreading.{total, carried, sends, spread, write}
-use Rattle.mechanism.specs.Pairwise.{carry, tell, released}
+use Rattle.mechanism.specs.Spreading.{total, carried, sends, spread, write, released}
+use Rattle.mechanism.specs.Pairwise.{carry, tell}
 use Rattle.mechanism.proofs.Others.{others, size-most}
 use Rattle.mechanism.proofs.Totals.{total-same}
 

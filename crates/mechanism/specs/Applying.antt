@@ -9,6 +9,7 @@ use Rattle.tree.specs.Parents.{parent}
 use Rattle.tree.specs.Sides.{pointsTo}
 use Rattle.messages.specs.declared.Message.{Message}
 use Rattle.messages.specs.declared.Message.the-variants.{Probe, Response, Update, Release}
+use Rattle.session.specs.Holding.{pairAt}
 use Rattle.session.specs.declared.Pairs.{Pairs}
 
 -- the pair (from, to) that owns a message: probes and releases run against it
@@ -44,13 +45,13 @@ readAt p i = record { lease = getD (p .lease) i 0; cache = getD (p .cache) i (po
 abbrev pub storeAt : Pairs → ℕ → Cell → Pairs
 storeAt p i c = record { lease = set (p .lease) i (c .lease); cache = set (p .cache) i (c .cache); messages = set (p .messages) i (c .sent) }
 
--- the pairs of both directions, and the cell of (u,v) among them: the larger of the two is the child
+-- the pairs of both directions, and the cell of (u,v) among them
 pub record Links : Type 0 where
   pub up : Pairs
   pub down : Pairs
 
 unfoldable pub cell : Links → ℕ → ℕ → Cell
-cell l u v = cond (ltb v u) (readAt (l .up) u) (readAt (l .down) v)
+cell l u v = record { lease = pairAt 0 (l .up .lease) (l .down .lease) u v; cache = pairAt (pos 0) (l .up .cache) (l .down .cache) u v; sent = pairAt 0 (l .up .messages) (l .down .messages) u v }
 
 abbrev pub putIf : Bool → Links → ℕ → ℕ → Cell → Links
 putIf true l u v c = record { up = storeAt (l .up) u c; down = l .down }
@@ -76,9 +77,16 @@ each g i (a ∷ l) = g i a ∷ each g (suc i) l
 abbrev pub raisedAt : ℕ → (ℕ → Bool) → ℕ → List ℕ → List ℕ
 raisedAt n points b l = each (λ i k. cond ((ltb 0 i && ltb i n) && points i) b k) 0 l
 
-abbrev pub raisedIf : ℕ → (ℕ → Bool) → ℕ → Pairs → Pairs
-raisedIf n points b p = record { lease = raisedAt n points b (p .lease); cache = p .cache; messages = p .messages }
+-- those of the pairs that point to x, from child to parent and from parent to child
+unfoldable pub upRaised : List ℕ → ℕ → ℕ → ℕ → List ℕ → List ℕ
+upRaised ps n b x l = raisedAt n (λ i. pointsTo ps i (parent ps i) x) b l
+
+unfoldable pub downRaised : List ℕ → ℕ → ℕ → ℕ → List ℕ → List ℕ
+downRaised ps n b x l = raisedAt n (λ i. pointsTo ps (parent ps i) i x) b l
 
 -- every pair that points to x gets b
+abbrev pub renumbered : List ℕ → Pairs → Pairs
+renumbered numbers p = record { lease = numbers; cache = p .cache; messages = p .messages }
+
 unfoldable pub raised : List ℕ → ℕ → ℕ → ℕ → Links → Links
-raised ps n b x l = record { up = raisedIf n (λ i. pointsTo ps i (parent ps i) x) b (l .up); down = raisedIf n (λ i. pointsTo ps (parent ps i) i x) b (l .down) }
+raised ps n b x l = record { up = renumbered (upRaised ps n b x (l .up .lease)) (l .up); down = renumbered (downRaised ps n b x (l .down .lease)) (l .down) }

@@ -14,12 +14,12 @@ use Rattle.rule.specs.Pair as pair
 use Rattle.requests.specs.declared.Request.{Request}
 use Rattle.requests.specs.declared.Request.the-variants.{Combine, Write}
 use Rattle.messages.specs.declared.Message.{Message}
-use Rattle.messages.specs.declared.Message.the-variants.{Probe, Response, Update, Release}
+use Rattle.messages.specs.declared.Message.the-variants.{Probe, Response, Update}
 use Rattle.session.specs.Holding.{valueOf, leaseOf, cacheOf}
 use Rattle.session.specs.declared.Session.{Session}
 use Rattle.mechanism.specs.Views.{View, view}
 use Rattle.mechanism.specs.Combining.{ask}
-use Rattle.mechanism.specs.Spreading.{total}
+use Rattle.mechanism.specs.Spreading.{total, released}
 use Rattle.mechanism.specs.Applying.{fromOf, toOf}
 use Rattle.mechanism.specs.Requests.{valued}
 
@@ -68,12 +68,6 @@ tellOf op s x z u v = tell op (view (valued s x z)) x u v
 abbrev pub toldOf : Op ℤ → Session → Request → ℕ → ℕ → ℤ
 toldOf op s (Combine x) u v = replyOf op s u v
 toldOf op s (Write x z) u v = tellOf op s x z u v
-
--- the release that follows an update where the number was k
-abbrev pub released : ℕ → ℕ → ℕ → List Message
-released zero u v = []
-released (suc zero) u v = Release v u ∷ []
-released (suc (suc k)) u v = []
 
 -- the messages of a pair with number k that tells y: a probe and its response; or an update, and a release where k was 1
 abbrev pub exchange : pair.Request → ℕ → ℕ → ℕ → ℤ → List Message

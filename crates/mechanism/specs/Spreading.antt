@@ -11,6 +11,12 @@ use Rattle.messages.specs.declared.Message.{Message}
 use Rattle.messages.specs.declared.Message.the-variants.{Update, Release}
 use Rattle.mechanism.specs.Views.{View}
 
+-- w's release to u, where the number of (u,w) was 1 and is now 0
+abbrev pub released : ℕ → ℕ → ℕ → List Message
+released zero u w = []
+released (suc zero) u w = Release w u ∷ []
+released (suc (suc k)) u w = []
+
 module _ (op : Op ℤ) (q : View) where
   abbrev pub addIf : Bool → ℤ → ℤ → ℤ
   addIf true a h = op ._⊕_ a h
@@ -25,16 +31,11 @@ module _ (op : Op ℤ) (q : View) where
   abbrev pub carried : ℕ → ℕ → ℤ → ℕ → ℤ
   carried u v z w = total (λ c. cond (eqb c v) z (q .cache c u)) u w (q .count)
 
-  -- w releases, if the number of (u,w) is now 0
-  abbrev pub freed : ℕ → ℕ → ℕ → List Message
-  freed zero u w = Release w u ∷ []
-  freed (suc k) u w = []
-
   -- to w, if it is a neighbour but v and (u,w) is positive
   unfoldable pub sends : Bool → ℕ → (ℕ → ℕ → ℤ → List Message) → ℕ → ℕ → ℤ → ℕ → List Message
   sends false k next u v z w = []
   sends true zero next u v z w = []
-  sends true (suc k) next u v z w = let y = carried u v z w in Update u w y ∷ (next w u y ++ freed k u w)
+  sends true (suc k) next u v z w = let y = carried u v z w in Update u w y ∷ (next w u y ++ released (suc k) u w)
 
   -- the walk at u, told z by v, with a falling number
   unfoldable pub spread : ℕ → ℕ → ℕ → ℤ → List Message
