@@ -8,7 +8,6 @@ use lib.ListN.{length}
 use Rattle.fields.specs.Bits.{Bytes, bit}
 use Rattle.fields.specs.Fields.{field, putField}
 use Rattle.fields.specs.Usable.{usableBits, takes, fieldAt, putAt, told}
-use Rattle.fields.specs.declared.Field.the-variants as finding
 
 -- A field reads back as it was written.
 abbrev pub Read-back : Type 0
@@ -63,7 +62,7 @@ Taken-exactly = (n place w v : ℕ) → (takes n place w v ≡ true) ↔ ((w ≤
 
 -- A number that was taken is read; one that was not changes nothing.
 abbrev pub Taken-is-read : Type 0
-Taken-is-read = (s : List ℕ) (place w v : ℕ) → takes (length s) place w v ≡ true → fieldAt (putAt s place w v) place w ≡ finding.Value v
+Taken-is-read = (s : List ℕ) (place w v : ℕ) → takes (length s) place w v ≡ true → told (fieldAt (putAt s place w v) place w) ≡ (0, v)
 
 abbrev pub Refused-is-kept : Type 0
 Refused-is-kept = (s : List ℕ) (place w v : ℕ) → takes (length s) place w v ≡ false → putAt s place w v ≡ s
