@@ -4,7 +4,7 @@ use mathlib.Core.Bool.{true, false}
 use mathlib.Core.Logic.{_⊎_, _↔_}
 use mathlib.Core.List.{List}
 use Prim.Native.Nat.{ℕ, _+_, _*_, _^_, _≤_, _<_}
-use lib.ListN.{length}
+use lib.ListN.{length, take}
 use Rattle.fields.specs.Bits.{Bytes, bit}
 use Rattle.fields.specs.Fields.{field, putField}
 use Rattle.fields.specs.Usable.{usableBits, takes, fieldAt, putAt, told}
@@ -47,6 +47,10 @@ Read-two = (s : List ℕ) (place a b : ℕ) → field s place (a + b) ≡ field 
 
 abbrev pub Write-two : Type 0
 Write-two = (s : List ℕ) (place a b x y : ℕ) → y < 2 ^ b → putField s place (a + b) (x * 2 ^ b + y) ≡ putField (putField s (place + a) b y) place a x
+
+-- The first n bytes have every field that lies in them.
+abbrev pub Read-of-first : Type 0
+Read-of-first = (n : ℕ) (s : List ℕ) (place w : ℕ) → place + w ≤ 8 * n → field (take n s) place w ≡ field s place w
 
 -- Reading finds the number exactly where the field is at most 64 bits wide and lies in the usable bytes,
 abbrev pub Found-exactly : Type 0
