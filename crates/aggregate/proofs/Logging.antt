@@ -4,7 +4,7 @@ use native.Mathlib.Omega.{arith}
 use lib.ListN.{length}
 use Rattle.tree.specs.Operation.{sum}
 use Rattle.messages.proofs.Logs.{log-length-kept, log-outside-kept}
-use Rattle.messages.proofs.Counts.{count-of-read}
+use Rattle.messages.proofs.Listing.{messages-of-read}
 use Rattle.mechanism.specs.Requests.{says}
 use Rattle.mechanism.proofs.Few.{few-messages}
 use Rattle.mechanism.proofs.Fits.{log-is-request, sum-ranging}
@@ -15,7 +15,7 @@ pub logged-exactly : Logged-exactly
 logged-exactly s r log place typed small e =
     let a = accepted-by s r (length log) place e in
     let reads = log-is-request sum 2 sum-ranging s typed (a .holds) r small (a .inside) log place (a .room) in
-    rw (answers s r (length log) place e, logs s r log place e) (reads, refl, sym (count-of-read _ place _ (says sum s r .log) reads))
+    rw (answers s r (length log) place e, logs s r log place e) (reads, refl, sym (ap length (messages-of-read _ place _ (says sum s r .log) reads)))
 
 pub length-kept : Length-kept
 length-kept s r log place = verdict s r (length log) place

@@ -1,5 +1,5 @@
 -- What a list logs: the messages of the requests that were done, one behind the other.
-use mathlib.Core.Path.{_≡_, refl, _∙_}
+use mathlib.Core.Path.{_≡_, refl, ap, _∙_}
 use mathlib.Core.List.{List, [], _∷_, _++_}
 use Prim.Native.Nat.{ℕ, zero, suc, _+_, _<_, _≤_}
 use native.Mathlib.Omega.{arith}
@@ -12,7 +12,7 @@ use Rattle.messages.specs.Writing.{logged, bitsOfAll}
 use Rattle.messages.specs.declared.Message.{Message}
 use Rattle.messages.proofs.Logs.{log-length-kept, log-outside-kept, log-reads-back}
 use Rattle.messages.proofs.Stretches.{bits-append, sized-append, logged-append}
-use Rattle.messages.proofs.Counts.{count-of-read}
+use Rattle.messages.proofs.Listing.{messages-of-read}
 use Rattle.requests.specs.Lists.{AllSized}
 use Rattle.requests.specs.Reading.{requestsOf}
 use Rattle.requests.specs.declared.Request.{Request}
@@ -117,7 +117,7 @@ run-logged s list answers log place typed some = either s list answers log place
     let h : place + bitsOfAll ms ≤ usableBits (length log) = rw (k .place, k .logs, log-length-kept log place ms) at inside in
     let holds = runnable-by s list (length answers) e .holds in
     let reads = log-reads-back log place ms (fitting (requestsOf list) o (read-sized list) typed holds) h in
-    rw (ran-is s list answers log place e, log-is s list answers log place e, k .logs, k .place) (reads, omega (arith, k .count), omega (arith, k .count, count-of-read _ place _ ms reads)))
+    rw (ran-is s list answers log place e, log-is s list answers log place e, k .logs, k .place) (reads, omega (arith, k .count), omega (arith, k .count, ap length (messages-of-read _ place _ ms reads))))
     (λ l. absurd (omega (arith, rw (ran-whole s list answers log place l) at some)))
 
 pub run-outside-kept : Run-outside-kept

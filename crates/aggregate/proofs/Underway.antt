@@ -11,7 +11,6 @@ use Rattle.requests.specs.Lists.{Sized, AllSized, oneIfCombine, combinesIn}
 use Rattle.requests.specs.Reading.{itemAt, told, Hands, requestsOf, judgedOf}
 use Rattle.requests.specs.declared.Request.{Request}
 use Rattle.requests.specs.declared.Request.the-variants.{Combine, Write}
-use Rattle.requests.specs.declared.Item.{Item}
 use Rattle.requests.specs.declared.Item.the-variants.{Found, Short}
 use Rattle.requests.proofs.Items.{item-exactly}
 use Rattle.requests.proofs.Refusals.{accepted, ruled-exactly, judged-whole}
@@ -97,11 +96,11 @@ module _ {s : Session} {list : List ℕ} {answers : List ℤ} {log : List ℕ} {
 
   module _ (l : o .totals .requests < count) where
     -- the first that is due stands there, and the rest behind it
-    ahead : (r : Request) × (rest : List Request) × (next : ℕ) × (u .due ≡ r ∷ rest) × (itemAt list at ≡ Found r next) × Hands list next rest
+    ahead : (r : Request) × (rest : List Request) × (next : ℕ) × (u .due ≡ r ∷ rest) × (told (itemAt list at) ≡ (0, (r, next) ∷ [])) × Hands list next rest
     ahead = go (u .due) (u .left) (u .hands)
       where
         go : (due : List Request) → o .totals .requests + length due ≡ count → Hands list at due
-            → (r : Request) × (rest : List Request) × (next : ℕ) × (due ≡ r ∷ rest) × (itemAt list at ≡ Found r next) × Hands list next rest
+            → (r : Request) × (rest : List Request) × (next : ℕ) × (due ≡ r ∷ rest) × (told (itemAt list at) ≡ (0, (r, next) ∷ [])) × Hands list next rest
         go [] k h = absurd (omega (arith, l))
         go (r ∷ rest) k h = (r, rest, h .0, refl, h .1, h .2)
 
@@ -109,7 +108,7 @@ module _ {s : Session} {list : List ℕ} {answers : List ℤ} {log : List ℕ} {
     rest = ahead .1
 
     pub never-short : itemAt list at ≡ Short → ⊥
-    never-short e = omega (arith, ap (λ (i : Item). told i .0) (sym (ahead .4) ∙ e))
+    never-short e = omega (arith, ap (λ (t : ℕ × List (Request × ℕ)). t .0) (sym (ahead .4) ∙ ap told e))
 
     pub addable : (r : Request) {v : Served} {k : ℕ} → v ≡ inTurn r o → k ≡ oneIfCombine r → Addable (o .totals) k (v .outcome)
     addable r served e =
@@ -126,7 +125,7 @@ module _ {s : Session} {list : List ℕ} {answers : List ℤ} {log : List ℕ} {
       it-is : (u .due ≡ r ∷ rest) × Hands list next rest
       it-is =
           let a = item-exactly list at next r .0 (ap told found) in
-          let b = item-exactly list at (ahead .2) (ahead .0) .0 (ap told (ahead .4)) in
+          let b = item-exactly list at (ahead .2) (ahead .0) .0 (ahead .4) in
           (ahead .3 ∙ ap (λ (p : Request). p ∷ rest) (b .1 ∙ sym (a .1)), rw (b .2 ∙ sym (a .2)) at (ahead .5))
 
       sized-now : Sized r × AllSized rest

@@ -7,7 +7,7 @@ use lib.IntN.{ℤ, pos}
 use lib.ListN.{length, take, getD}
 use Rattle.fields.specs.Bits.{bit}
 use Rattle.tree.specs.Operation.{sum}
-use Rattle.messages.specs.Reading.{Reads, countFrom}
+use Rattle.messages.specs.Reading.{Reads, messagesFrom}
 use Rattle.requests.specs.Lists.{combinesIn}
 use Rattle.requests.specs.Reading.{requestsOf, judgedOf}
 use Rattle.requests.specs.declared.Request.{Request}
@@ -38,7 +38,7 @@ abbrev pub Logged-exactly : Type 0
 Logged-exactly = (s : Session) (r : Request) (log : List ℕ) (place : ℕ) → Typed s → Small r → servedOf s r (length log) place .outcome .refusal ≡ 0
     → Reads (logOf s r log place) place (servedOf s r (length log) place .outcome .next) (says sum s r .log)
     × (servedOf s r (length log) place .outcome .messages ≡ length (says sum s r .log))
-    × (servedOf s r (length log) place .outcome .messages ≡ countFrom (servedOf s r (length log) place .outcome .next) (logOf s r log place) place (servedOf s r (length log) place .outcome .next))
+    × (servedOf s r (length log) place .outcome .messages ≡ length (messagesFrom (servedOf s r (length log) place .outcome .next) (logOf s r log place) place (servedOf s r (length log) place .outcome .next)))
 
 -- the bits before its place and after the last record keep their values, and the log its length;
 abbrev pub Outside-kept : Type 0
@@ -103,7 +103,7 @@ abbrev pub Run-logged : Type 0
 Run-logged = (s : Session) (list : List ℕ) (answers : List ℤ) (log : List ℕ) (place : ℕ) → Typed s → 0 < ranOf s list answers log place .totals .requests
     → Reads (runLogOf s list answers log place) place (ranOf s list answers log place .totals .next) (spokenOf s list answers log place)
     × (ranOf s list answers log place .totals .messages ≡ length (spokenOf s list answers log place))
-    × (ranOf s list answers log place .totals .messages ≡ countFrom (ranOf s list answers log place .totals .next) (runLogOf s list answers log place) place (ranOf s list answers log place .totals .next))
+    × (ranOf s list answers log place .totals .messages ≡ length (messagesFrom (ranOf s list answers log place .totals .next) (runLogOf s list answers log place) place (ranOf s list answers log place .totals .next)))
 
 -- the bits before its place and after the last record keep their values, and the log its length.
 abbrev pub Run-outside-kept : Type 0

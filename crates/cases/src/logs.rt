@@ -66,7 +66,7 @@ pub fn read(place: u64, end: u64, log: &[u8]) {
     show::bytes(log);
     show::text(b":");
     all(place as usize, end as usize, log);
-    show::size(messages::count(log, place as usize, end as usize));
+    show::size(count(place as usize, end as usize, log));
     show::end();
 }
 
@@ -82,6 +82,20 @@ fn all(place: usize, end: usize, log: &[u8]) {
         };
         at = next;
     }
+}
+
+// How many messages stand there: a usable log has room for no more than 29,127.
+fn count(place: usize, end: usize, log: &[u8]) -> usize {
+    let mut at = place;
+    let mut n: usize = 0;
+    while n < 29127 {
+        let Entry::Read(_, next) = messages::read(log, at, end) else {
+            return n;
+        };
+        at = next;
+        n = n + 1;
+    }
+    n
 }
 
 fn entry(e: Entry) {

@@ -5,6 +5,7 @@ pub mod Kept
 pub mod ReadBack
 pub mod SameBits
 pub mod TwoFields
+pub mod FirstBytes
 pub mod Turns
 pub mod Rooms
 pub mod Outcomes

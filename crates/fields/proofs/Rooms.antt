@@ -106,7 +106,7 @@ unfolding putAt fieldAt
 taken-is-read s place w v e =
     let h = taken-exactly (length s) place w v .0 e in
     rw (e, length-kept s place w v, there (length s) place w (h .0) (h .1))
-    (ap Value (read-back s place w v (h .2) (omega (arith, h .1))))
+    (ap (λ (n : ℕ). (0, n)) (read-back s place w v (h .2) (omega (arith, h .1))))
 
 pub refused-is-kept : Refused-is-kept
 unfolding putAt

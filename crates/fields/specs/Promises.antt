@@ -4,11 +4,10 @@ use mathlib.Core.Bool.{true, false}
 use mathlib.Core.Logic.{_⊎_, _↔_}
 use mathlib.Core.List.{List}
 use Prim.Native.Nat.{ℕ, _+_, _*_, _^_, _≤_, _<_}
-use lib.ListN.{length}
+use lib.ListN.{length, take}
 use Rattle.fields.specs.Bits.{Bytes, bit}
 use Rattle.fields.specs.Fields.{field, putField}
 use Rattle.fields.specs.Usable.{usableBits, takes, fieldAt, putAt, told}
-use Rattle.fields.specs.declared.Field.the-variants as finding
 
 -- A field reads back as it was written.
 abbrev pub Read-back : Type 0
@@ -49,6 +48,10 @@ Read-two = (s : List ℕ) (place a b : ℕ) → field s place (a + b) ≡ field 
 abbrev pub Write-two : Type 0
 Write-two = (s : List ℕ) (place a b x y : ℕ) → y < 2 ^ b → putField s place (a + b) (x * 2 ^ b + y) ≡ putField (putField s (place + a) b y) place a x
 
+-- The first n bytes have every field that lies in them.
+abbrev pub Read-of-first : Type 0
+Read-of-first = (n : ℕ) (s : List ℕ) (place w : ℕ) → place + w ≤ 8 * n → field (take n s) place w ≡ field s place w
+
 -- Reading finds the number exactly where the field is at most 64 bits wide and lies in the usable bytes,
 abbrev pub Found-exactly : Type 0
 Found-exactly = (s : List ℕ) (place w v : ℕ) → (told (fieldAt s place w) ≡ (0, v)) ↔ ((w ≤ 64) × (place + w ≤ usableBits (length s)) × (v ≡ field s place w))
@@ -63,7 +66,7 @@ Taken-exactly = (n place w v : ℕ) → (takes n place w v ≡ true) ↔ ((w ≤
 
 -- A number that was taken is read; one that was not changes nothing.
 abbrev pub Taken-is-read : Type 0
-Taken-is-read = (s : List ℕ) (place w v : ℕ) → takes (length s) place w v ≡ true → fieldAt (putAt s place w v) place w ≡ finding.Value v
+Taken-is-read = (s : List ℕ) (place w v : ℕ) → takes (length s) place w v ≡ true → told (fieldAt (putAt s place w v) place w) ≡ (0, v)
 
 abbrev pub Refused-is-kept : Type 0
 Refused-is-kept = (s : List ℕ) (place w v : ℕ) → takes (length s) place w v ≡ false → putAt s place w v ≡ s

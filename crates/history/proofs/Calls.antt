@@ -12,7 +12,7 @@ use Rattle.tree.proofs.Cases.{lt-or-le}
 use Rattle.messages.specs.Reading.{messagesFrom}
 use Rattle.messages.specs.Writing.{bitsOfAll}
 use Rattle.messages.specs.declared.Message.{Message}
-use Rattle.messages.proofs.Counts.{nothing-between, messages-of-read}
+use Rattle.messages.proofs.Listing.{nothing-between, messages-of-read}
 use Rattle.requests.specs.Lists.{combinesIn}
 use Rattle.requests.specs.Reading.{requestsOf}
 use Rattle.requests.specs.declared.Request.{Request}

@@ -83,6 +83,12 @@ abbrev first : Message × ℕ → ℕ × List (Message × ℕ) → Message × �
 first none (n, []) = none
 first none (n, x ∷ xs) = x
 
+-- only a message is told with one
+pub told-read : (x : Entry) (m : Message) (next : ℕ) → told x ≡ (0, (m, next) ∷ []) → x ≡ Read m next
+told-read (Read n after) m next e = ap (λ (t : ℕ × List (Message × ℕ)). Read (first (m, next) t .0) (first (m, next) t .1)) e
+told-read End m next e = absurd (suc-ne-zero 0 (sym (ap many e)))
+told-read Short m next e = absurd (suc-ne-zero 0 (ap code e))
+
 module _ (s : List ℕ) (place end next : ℕ) (m : Message) where
   abbrev Stood : Type 0
   Stood = (end ≤ usableBits (length s)) × (next ≤ end) × (next ≡ place + bitsOf m) × Sized m × (field s place (bitsOf m) ≡ recordOf m)

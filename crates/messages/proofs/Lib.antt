@@ -8,5 +8,5 @@ pub mod Entries
 pub mod Answers
 pub mod Logs
 pub mod Stretches
-pub mod Counts
+pub mod Listing
 pub mod Outcomes

@@ -1,5 +1,5 @@
 -- A log of messages written one behind the other: what is kept, and that it reads back.
-use mathlib.Core.Path.{_≡_, refl, _∙_}
+use mathlib.Core.Path.{_≡_, refl, ap, _∙_}
 use mathlib.Core.Bool.{Bool, true, false, cond, _&&_}
 use mathlib.Core.List.{List, [], _∷_}
 use mathlib.Core.Logic.{inl, inr, ⊎-elim}
@@ -13,6 +13,7 @@ use Rattle.fields.proofs.Kept.{length-kept, outside-kept, same-field}
 use Rattle.fields.proofs.ReadBack.{read-back}
 use Rattle.messages.specs.Records.{fits, bitsOf, recordOf, Sized}
 use Rattle.messages.specs.Writing.{room, logAfter, logged, bitsOfAll}
+use Rattle.messages.specs.Reading.{told}
 use Rattle.messages.specs.Promises.{Log-length-kept, Log-outside-kept, Log-reads-back}
 use Rattle.messages.specs.declared.Message.{Message}
 use Rattle.messages.proofs.Widths.{record-fits}
@@ -53,13 +54,13 @@ first-stands s place m ms ok h =
 
 pub log-reads-back : Log-reads-back
 unfolding logged bitsOfAll
-log-reads-back s place [] ok h = entry-end s place (place + 0) h (omega arith)
+log-reads-back s place [] ok h = ap told (entry-end s place (place + 0) h (omega arith))
 log-reads-back s place (m ∷ ms) (ok, oks) h =
     let t = logAfter s place m in
     let a = logged t (place + bitsOf m) ms in
     let e : place + (bitsOf m + bitsOfAll ms) ≡ place + bitsOf m + bitsOfAll ms = omega arith in
     let i : place + (bitsOf m + bitsOfAll ms) ≤ usableBits (length a) = rw (log-length-kept s place (m ∷ ms)) h in (
       place + bitsOf m,
-      found a place (place + (bitsOf m + bitsOfAll ms)) m i (omega arith) ok (first-stands s place m ms ok (omega arith)),
+      ap told (found a place (place + (bitsOf m + bitsOfAll ms)) m i (omega arith) ok (first-stands s place m ms ok (omega arith))),
       rw e (log-reads-back t (place + bitsOf m) ms oks (rw (← e, after-length s place m) h)),
     )

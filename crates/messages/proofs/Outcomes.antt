@@ -15,7 +15,6 @@ use Rattle.messages.proofs.code.Reads as code
 use Rattle.messages.proofs.decode.Reads as decode
 use Rattle.messages.proofs.write.Reads as write
 use Rattle.messages.proofs.read.Reads as read
-use Rattle.messages.proofs.reader.count.Reads as count
 use Rattle.messages.proofs.reader.LogReader.new as reader-new
 use Rattle.messages.proofs.reader.LogReader.read as reader-read
 
@@ -33,9 +32,6 @@ write-once κ a x y s t p q = (p .0 ∙ sym (q .0), p .1 ∙ sym (q .1))
 
 pub read-once : OneResult read.Post
 read-once κ a x y s t p q = p ∙ sym q
-
-pub count-once : OneResult count.Post
-count-once κ a x y s t p q = p ∙ sym q
 
 -- ---- the reader's own functions
 

@@ -10,7 +10,7 @@ use Rattle.fields.specs.Fields.{field}
 use Rattle.fields.specs.Usable.{usableBits}
 use Rattle.messages.specs.Records.{Sized, AllSized, fits, bitsOf, recordOf, widthOf, coded, codedOf, toldCoded}
 use Rattle.messages.specs.Writing.{writtenOf, logAfter, toldWritten, logged, bitsOfAll}
-use Rattle.messages.specs.Reading.{decoded, entryAt, told, Reads, messagesFrom, countFrom}
+use Rattle.messages.specs.Reading.{decoded, entryAt, told, Reads, messagesFrom}
 use Rattle.messages.specs.declared.Message.{Message}
 
 -- A record is a field of 18 or 58 bits.
@@ -70,9 +70,6 @@ abbrev pub Log-reads-back : Type 0
 Log-reads-back = (s : List ℕ) (place : ℕ) (ms : List Message) → AllSized ms → place + bitsOfAll ms ≤ usableBits (length s)
     → Reads (logged s place ms) place (place + bitsOfAll ms) ms
 
--- A log that reads as a list of messages has these messages, and as many as are counted.
+-- A log that reads as a list of messages has these messages.
 abbrev pub Messages-of-read : Type 0
 Messages-of-read = (s : List ℕ) (place end : ℕ) (ms : List Message) → Reads s place end ms → messagesFrom end s place end ≡ ms
-
-abbrev pub Count-of-read : Type 0
-Count-of-read = (s : List ℕ) (place end : ℕ) (ms : List Message) → Reads s place end ms → countFrom end s place end ≡ length ms

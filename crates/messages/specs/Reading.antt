@@ -1,6 +1,6 @@
 -- What the log's reader finds at a place, before an end.
 use mathlib.Core.Path.{_≡_}
-use mathlib.Core.Bool.{Bool, true, false, cond}
+use mathlib.Core.Bool.{cond}
 use mathlib.Core.List.{List, [], _∷_}
 use Prim.Native.Nat.{ℕ, zero, suc, _+_, _/_, _%_}
 use lib.Dec.{eqb, leb}
@@ -43,8 +43,8 @@ told Short = (1, [])
 
 -- from place on the reader finds these messages one behind the other, and then the end
 abbrev pub Reads : List ℕ → ℕ → ℕ → List Message → Type 0
-Reads s place end [] = entryAt s place end ≡ End
-Reads s place end (m ∷ ms) = (next : ℕ) × (entryAt s place end ≡ Read m next) × Reads s next end ms
+Reads s place end [] = told (entryAt s place end) ≡ (0, [])
+Reads s place end (m ∷ ms) = (next : ℕ) × (told (entryAt s place end) ≡ (0, (m, next) ∷ [])) × Reads s next end ms
 
 -- the place after what was found: past a message, else where it was
 abbrev pub placeAfter : Entry → ℕ → ℕ
@@ -52,21 +52,13 @@ placeAfter (Read m next) place = next
 placeAfter End place = place
 placeAfter Short place = place
 
-abbrev pub isMessage : Entry → Bool
-isMessage (Read m next) = true
-isMessage End = false
-isMessage Short = false
-
 -- a message and what follows it; nothing else is one
 abbrev pub followed : Entry → (ℕ → List Message) → List Message
 followed (Read m next) rest = m ∷ rest next
 followed End rest = []
 followed Short rest = []
 
--- the messages that stand one behind the other from place on, at most k, and how many they are
+-- the messages that stand one behind the other from place on, at most k
 unfoldable pub messagesFrom : ℕ → List ℕ → ℕ → ℕ → List Message
 messagesFrom zero s place end = []
 messagesFrom (suc k) s place end = followed (entryAt s place end) (λ next. messagesFrom k s next end)
-
-unfoldable pub countFrom : ℕ → List ℕ → ℕ → ℕ → ℕ
-countFrom k s place end = length (messagesFrom k s place end)

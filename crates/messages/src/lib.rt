@@ -6,7 +6,6 @@ mod reader; // the log's reader that carries the log and its place along
 mod record; // a message as a record of bits
 
 pub use reader::LogReader;
-pub use reader::count;
 ghost use mathlib.Core.Path.{_≡_};
 ghost use lib.ListN.{length};
 ghost use Rattle.messages.specs.Records.{bitsOf, codedOf};

@@ -1,6 +1,6 @@
 // The log's reader that carries the lent log and its bit place along from message to message.
 ghost use mathlib.Core.Path.{_≡_};
-ghost use Rattle.messages.specs.Reading.{entryAt, placeAfter, isMessage, countFrom};
+ghost use Rattle.messages.specs.Reading.{entryAt, placeAfter};
 use crate::Entry;
 
 // A lent log and the place in it.
@@ -28,21 +28,6 @@ impl<'a> LogReader<'a> {
     }
 }
 
-// How many messages stand one behind the other from place on, up to end or to what is refused.
-pub fn count(log: &[u8], place: usize, end: usize) -> usize
-    ensures { λ r. ⌜ r ≡ countFrom end (now (log .entry)) place end ⌝ }
-{
-    let mut r = LogReader::new(log, place);
-    let mut n = 0;
-    loop {
-        if is_message(r.read(end)) {
-            n = n + 1;
-        } else {
-            return n;
-        }
-    }
-}
-
 // The place after what was read: past a message, else where it was.
 pub fn place_after(e: Entry, place: usize) -> usize
     ensures { λ r. ⌜ r ≡ placeAfter e place ⌝ }
@@ -51,16 +36,5 @@ pub fn place_after(e: Entry, place: usize) -> usize
         Entry::Read(_, next) => next,
         Entry::End => place,
         Entry::Short => place,
-    }
-}
-
-// Whether a message was read.
-pub fn is_message(e: Entry) -> bool
-    ensures { λ r. ⌜ r ≡ isMessage e ⌝ }
-{
-    match e {
-        Entry::Read(_, _) => true,
-        Entry::End => false,
-        Entry::Short => false,
     }
 }

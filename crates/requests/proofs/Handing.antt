@@ -1,12 +1,12 @@
 -- The requests of an accepted list are handed out one behind the other.
-use mathlib.Core.Path.{_≡_}
+use mathlib.Core.Path.{_≡_, ap}
 use mathlib.Core.List.{List}
 use Prim.Native.Nat.{ℕ, zero, suc, _+_, _≤_}
 use native.Mathlib.Omega.{arith}
 use lib.ListN.{length}
 use Rattle.fields.specs.Usable.{usableBits}
 use Rattle.requests.specs.Promises.{Handed-out}
-use Rattle.requests.specs.Reading.{Hands, countAt, placeOf, requestsFrom}
+use Rattle.requests.specs.Reading.{told, Hands, countAt, placeOf, requestsFrom}
 use Rattle.requests.proofs.Places.{place-up}
 use Rattle.requests.proofs.Items.{item-there}
 use Rattle.requests.proofs.Refusals.{usable, accepted, ruled-exactly, judged-whole}
@@ -15,7 +15,7 @@ use Rattle.requests.proofs.Refusals.{usable, accepted, ruled-exactly, j
 hands : (s : List ℕ) (j k n : ℕ) → j + k ≡ n → placeOf s n ≤ usableBits (length s) → Hands s (placeOf s j) (requestsFrom s (placeOf s j) k)
 unfolding requestsFrom placeOf
 hands s j zero n e u = tt
-hands s j (suc k) n e u = (placeOf s (suc j), item-there s (placeOf s j) (omega (arith, place-up s (suc j) n (omega arith))), hands s (suc j) k n (omega arith) u)
+hands s j (suc k) n e u = (placeOf s (suc j), ap told (item-there s (placeOf s j) (omega (arith, place-up s (suc j) n (omega arith)))), hands s (suc j) k n (omega arith) u)
 
 pub handed-out : Handed-out
 unfolding placeOf

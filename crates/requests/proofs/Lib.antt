@@ -3,6 +3,7 @@ pub mod Places
 pub mod Items
 pub mod Steps
 pub mod Refusals
+pub mod FirstBytes
 pub mod Walk
 pub mod OneField
 pub mod Runs

@@ -1,5 +1,5 @@
 -- One request, read step by step: what each field that is found or missing says of the item at a place.
-use mathlib.Core.Path.{_≡_, sym, _∙_}
+use mathlib.Core.Path.{_≡_, sym, ap, _∙_}
 use mathlib.Core.List.{List}
 use Prim.Native.Nat.{ℕ, _+_, _^_, _<_}
 use native.Mathlib.Nat.{suc-ne-zero}
@@ -8,15 +8,16 @@ use lib.IntN.{ℤ}
 use lib.Signed.{mag}
 use borrow.Author.Tests.{lt-ltb, eq-eqb, ne-eqb}
 use Rattle.fields.specs.Fields.{field}
-use Rattle.fields.specs.Usable.{fieldAt}
+use Rattle.fields.specs.Usable.{fieldAt, told}
 use Rattle.fields.specs.declared.Field.{Field}
 use Rattle.fields.specs.declared.Field.the-variants as finding
 use Rattle.fields.proofs.ReadBack.{field-lt}
 use Rattle.fields.proofs.Rooms.{found, cut-off}
-use Rattle.twos.specs.Twos.{signed, decoded32}
+use Rattle.twos.specs.Twos.{signed, decoded, decoded32}
 use Rattle.twos.specs.declared.Decoded32.the-variants as decoding
 use Rattle.twos.proofs.RoundTrip.{read-decodes}
 use Rattle.twos.proofs.Signs.{signed-mag}
+use Rattle.twos.proofs.Told.{decoded-value}
 use Rattle.requests.specs.Reading.{requestAt, itemAt}
 use Rattle.requests.specs.declared.Request.the-variants.{Combine, Write}
 use Rattle.requests.specs.declared.Item.the-variants.{Found, Short}
@@ -34,7 +35,9 @@ module _ (s : List ℕ) (place number : ℕ) (f : fieldAt s place 32 ≡ finding
 
   value-read : decoded32 32 number ≡ decoding.Value (signed 32 number)
   unfolding decoded32
-  value-read = rw (read-decodes s place 32 number (omega arith) f, lt-ltb (mag (signed 32 number)) (2 ^ 31) value-small)
+  value-read =
+      let d = decoded-value (decoded 32 number) (signed 32 number) (read-decodes s place 32 number (omega arith) (ap told f)) in
+      rw (d, lt-ltb (mag (signed 32 number)) (2 ^ 31) value-small)
 
   pub no-misfit : decoded32 32 number ≡ decoding.Misfit → ⊥
   no-misfit d = let y : _≡_ {A = ℕ} 1 0 = cc (value-read, d) in suc-ne-zero 0 y

@@ -3,7 +3,7 @@ use mathlib.Core.Path.{_≡_}
 use mathlib.Core.List.{List, [], _∷_}
 use mathlib.Core.Logic.{_↔_}
 use Prim.Native.Nat.{ℕ, _≤_, _<_}
-use lib.ListN.{length}
+use lib.ListN.{length, take}
 use Rattle.fields.specs.Bits.{Bytes}
 use Rattle.fields.specs.Usable.{usableBits}
 use Rattle.requests.specs.Lists.{AllSized, listOf, combinesIn}
@@ -18,6 +18,10 @@ Ruled-exactly = (s : List ℕ) (r : ℕ) → (judgedOf s .refusal ≡ r) ↔ Rul
 -- and answers zeros where it refuses.
 abbrev pub Refused-with-zeros : Type 0
 Refused-with-zeros = (s : List ℕ) → 0 < judgedOf s .refusal → judgedOf s ≡ refused (judgedOf s .refusal)
+
+-- A longer input is judged as its first 20,995 bytes: the longest list has 20,994, and one byte more is enough to tell that bytes are left over.
+abbrev pub List-first-bytes : Type 0
+List-first-bytes = (s : List ℕ) → judgedOf (take 20995 s) ≡ judgedOf s
 
 -- Of an accepted list it tells how many requests there are, and how many of them are combines.
 abbrev pub Counts-right : Type 0

@@ -39,7 +39,7 @@ told Short = (1, [])
 -- from place on the reader hands out these requests one behind the other
 abbrev pub Hands : List ℕ → ℕ → List Request → Type 0
 Hands s place [] = Unit
-Hands s place (r ∷ rs) = (next : ℕ) × (itemAt s place ≡ Found r next) × Hands s next rs
+Hands s place (r ∷ rs) = (next : ℕ) × (told (itemAt s place) ≡ (0, (r, next) ∷ [])) × Hands s next rs
 
 -- ---- the list
 

@@ -32,6 +32,11 @@ unfolding place
 place-le zero h = omega arith
 place-le (suc k) h = omega (arith, place-le k (omega arith), long-le k (omega arith))
 
+-- where the fields of 256 nodes end
+pub place-last : place 255 ≡ 1794
+unfolding place long leadingZeros
+place-last = refl
+
 -- later fields lie behind earlier ones
 pub place-up : (j k : ℕ) → j ≤ k → place j ≤ place k
 place-up j zero h = let e : j ≡ 0 = omega arith in rw e (omega arith)

@@ -26,6 +26,10 @@ Ruled-exactly = (s : List ℕ) (r : ℕ) → (readingOf s .refusal ≡ r) ↔ Ru
 abbrev pub Refused-with-zeros : Type 0
 Refused-with-zeros = (s : List ℕ) → 0 < readingOf s .refusal → readingOf s ≡ refused (readingOf s .refusal)
 
+-- A longer input reads as its first 226 bytes: the longest table has 225, and one byte more is enough to tell that bytes are left over.
+abbrev pub Table-first-bytes : Type 0
+Table-first-bytes = (s : List ℕ) → readingOf (take 226 s) ≡ readingOf s
+
 -- Bytes are read as a tree exactly where the tree is in rule and the bytes are its table.
 abbrev pub Table-exactly : Type 0
 Table-exactly = (s : List ℕ) (t : Tree) → Bytes s → length (t .parents) ≡ 256 → (readingOf s ≡ accepted t) ↔ ((inRule (t .parents) (t .count) ≡ true) × (s ≡ tableOf t))

@@ -48,3 +48,16 @@ narrowed decoding.Misfit = decoding32.Misfit
 
 unfoldable pub decoded32 : ℕ → ℕ → Decoded32
 decoded32 w n = narrowed (decoded w n)
+
+-- document 01's number and value: 11 is a value that does not fit. Document 01 says so of the log's 40 bits; at other widths it is the same fault.
+abbrev pub toldEncoded : Encoded → ℕ × ℕ
+toldEncoded (encoding.Number n) = (0, n)
+toldEncoded encoding.Misfit = (11, 0)
+
+abbrev pub toldDecoded : Decoded → ℕ × ℤ
+toldDecoded (decoding.Value z) = (0, z)
+toldDecoded decoding.Misfit = (11, pos 0)
+
+abbrev pub toldDecoded32 : Decoded32 → ℕ × ℤ
+toldDecoded32 (decoding32.Value z) = (0, z)
+toldDecoded32 decoding32.Misfit = (11, pos 0)
