@@ -13,5 +13,6 @@ pub mod Wholly
 pub mod Underway
 pub mod Listing
 pub mod Lasting
+pub mod Stopping
 pub mod Speaking
 pub mod Outcomes

@@ -1,6 +1,7 @@
 -- What running a list answers, the session it returns, and the answer places and the log that it leaves.
 use mathlib.Core.Path.{_≡_}
 use mathlib.Core.Bool.{true, false, cond}
+use mathlib.Core.Logic.{_⊎_}
 use mathlib.Core.List.{List, [], _∷_, _++_}
 use Prim.Native.Nat.{ℕ, zero, suc, _+_, _<_, _≤_}
 use lib.Dec.{eqb, leb}
@@ -114,6 +115,13 @@ pub data Serves (n : ℕ) (o′ : Running) : List Request → Running → Type 0
   all-done : n ≡ 0 → Serves n o′ [] o′
   stopped : (r : Request) (rs : List Request) → 0 < n → inTurn r o′ .outcome .refusal ≡ n → Serves n o′ (r ∷ rs) o′
   accepted : (r : Request) (rs : List Request) (o : Running) → inTurn r o .outcome .refusal ≡ 0 → Serves n o′ rs (done r o) → Serves n o′ (r ∷ rs) o
+
+-- the numbers of a list that is refused as a whole, and of one that stops midway
+abbrev pub OfWhole : ℕ → Type 0
+OfWhole n = (n ≡ 1) ⊎ ((n ≡ 4) ⊎ ((n ≡ 5) ⊎ ((n ≡ 6) ⊎ (n ≡ 10))))
+
+abbrev pub OfStop : ℕ → Type 0
+OfStop n = (n ≡ 7) ⊎ ((n ≡ 8) ⊎ (n ≡ 9))
 
 -- the messages of the requests that were done, in their order
 unfoldable pub spokenIn : List Request → Running → List Message
