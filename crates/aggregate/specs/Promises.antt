@@ -18,7 +18,7 @@ use Rattle.session.specs.declared.Session.{Session}
 use Rattle.mechanism.specs.Requests.{nodeOf, Small, says}
 use Rattle.mechanism.specs.Refusals.{Ruled}
 use Rattle.aggregate.specs.Serving.{refused, servedOf, logOf}
-use Rattle.aggregate.specs.Running.{running, start, endedAs, listRefusal, ranOf, answersOf, runLogOf, Whole, Serves, OfWhole, OfStop, spokenOf}
+use Rattle.aggregate.specs.Running.{running, start, endedAs, listRefusal, ranOf, answersOf, runLogOf, earlierOf, Whole, Serves, OfWhole, OfStop, spokenOf}
 use Rattle.aggregate.specs.Running.{refused as refusedList}
 
 -- A request is refused exactly as document 01 says,
@@ -84,14 +84,15 @@ abbrev pub All-done : Type 0
 All-done = (s : Session) (list : List ℕ) (answers : List ℤ) (log : List ℕ) (place : ℕ) → ranOf s list answers log place .refusal ≡ 0
     → (ranOf s list answers log place .index ≡ 0) × (ranOf s list answers log place .totals .requests ≡ length (requestsOf list)) × (ranOf s list answers log place .totals .answers ≡ combinesIn (requestsOf list))
 
--- where one is refused, its index is the number of those done, and what is left is what the list of those alone leaves.
+-- where one is refused, its index k is the number of those done; the list of the k requests before it is read as they are, and alone leaves what is left.
 abbrev pub Stops-midway : Type 0
-Stops-midway = (s : Session) (list earlier : List ℕ) (answers : List ℤ) (log : List ℕ) (place : ℕ) → listRefusal s list (length answers) ≡ 0 → 0 < ranOf s list answers log place .refusal
-    → judgedOf earlier .refusal ≡ 0 → requestsOf earlier ≡ take (ranOf s list answers log place .index) (requestsOf list)
-    → (ranOf s list answers log place .index ≡ ranOf s list answers log place .totals .requests) × (ranOf s list answers log place .index < length (requestsOf list))
-    × (ranOf s earlier answers log place ≡ endedAs 0 (ranOf s list answers log place .totals) (ranOf s list answers log place .session))
-    × (answersOf s earlier answers log place ≡ answersOf s list answers log place)
-    × (runLogOf s earlier answers log place ≡ runLogOf s list answers log place)
+Stops-midway = (s : Session) (list : List ℕ) (answers : List ℤ) (log : List ℕ) (place k : ℕ) → listRefusal s list (length answers) ≡ 0
+    → 0 < ranOf s list answers log place .refusal → ranOf s list answers log place .index ≡ k
+    → (ranOf s list answers log place .totals .requests ≡ k) × (k < length (requestsOf list))
+    × (judgedOf (earlierOf list k) .refusal ≡ 0) × (requestsOf (earlierOf list k) ≡ take k (requestsOf list))
+    × (ranOf s (earlierOf list k) answers log place ≡ endedAs 0 (ranOf s list answers log place .totals) (ranOf s list answers log place .session))
+    × (answersOf s (earlierOf list k) answers log place ≡ answersOf s list answers log place)
+    × (runLogOf s (earlierOf list k) answers log place ≡ runLogOf s list answers log place)
 
 -- Its number tells a caller which of the two it was: a list is refused as a whole with 1, 4, 5, 6 or 10,
 abbrev pub Whole-numbers : Type 0

@@ -6,11 +6,11 @@ use mathlib.Core.List.{List, [], _∷_, _++_}
 use Prim.Native.Nat.{ℕ, zero, suc, _+_, _<_, _≤_}
 use lib.Dec.{eqb, leb}
 use lib.IntN.{ℤ}
-use lib.ListN.{length, set}
+use lib.ListN.{length, take, set}
 use Rattle.tree.specs.Operation.{sum}
 use Rattle.messages.specs.declared.Message.{Message}
 use Rattle.requests.specs.Format.{Ruled}
-use Rattle.requests.specs.Lists.{oneIfCombine, combinesIn}
+use Rattle.requests.specs.Lists.{listOf, oneIfCombine, combinesIn}
 use Rattle.requests.specs.Reading.{requestsOf, judgedOf}
 use Rattle.requests.specs.declared.Request.{Request}
 use Rattle.requests.specs.declared.Request.the-variants.{Combine, Write}
@@ -100,6 +100,10 @@ answersOf s list answers log place = cond (eqb (listRefusal s list (length answe
 
 unfoldable pub runLogOf : Session → List ℕ → List ℤ → List ℕ → ℕ → List ℕ
 runLogOf s list answers log place = cond (eqb (listRefusal s list (length answers)) 0) (endOf s list answers log place .reached .log) log
+
+-- the list of its first k requests
+abbrev pub earlierOf : List ℕ → ℕ → List ℕ
+earlierOf list k = listOf (take k (requestsOf list))
 
 -- ---- the same in document 01's words
 

@@ -25,13 +25,12 @@ use Rattle.aggregate.specs.Serving.{servedOf, logOf}
 use Rattle.aggregate.specs.Running.{Running, start, Ended, runs, listRefusal, endOf, ranOf, answersOf, runLogOf, spokenIn}
 use Rattle.aggregate.proofs.Verdicts.{answers, refuses, logs-nothing, verdict}
 use Rattle.aggregate.proofs.Logging.{logged-exactly}
-use Rattle.aggregate.proofs.Runs.{serves, Reach, reach, combines-first}
+use Rattle.aggregate.proofs.Runs.{serves, Reach, reach, combines-first, sized-first}
 use Rattle.aggregate.proofs.Wholly.{runnable-by}
 use Rattle.aggregate.proofs.Listing.{either, ran-whole, answers-whole, log-whole, ran-is, answers-are, log-is}
 use Rattle.aggregate.proofs.Speaking.{spoke, run-logged}
 use Rattle.history.specs.History.{Call, combine, write, run, Result, answerOf, ofRequest, ofList, result, fromPlace, Good}
 use Rattle.history.specs.Promises.{Refused-returns, Nothing-changed, Messages-logged}
-use Rattle.history.proofs.Lists.{sized-first}
 use Rattle.history.proofs.Succession.{afterAll, answersTo, spokenBy, AllInOrder}
 use Rattle.history.proofs.Done.{in-order-by, Went, went}
 
