@@ -64,7 +64,7 @@ Fresh-contract = (κ : _) (tree tree′ : Tree) (begun : Started) → fresh-cont
 
 -- A refused call returns its number with zeros, and the session, the answer places and the log as they were;
 abbrev pub Refused-returns : Type 0
-Refused-returns = (s : Session) (c : Call) → Refused s c → result s c ≡ refusedWith (result s c .refusal) s c
+Refused-returns = (s : Session) (c : Call) → Refused s c → result s c ≡ refusedWith (result s c .refusal) s (lentPlaces c) (lentLog c)
 
 -- they are so after every call that accepts no request, as where the first request of a list is refused.
 abbrev pub Nothing-changed : Type 0
