@@ -12,7 +12,7 @@ use Rattle.tree.specs.Tours.{kept}
 use Rattle.tree.specs.declared.Tree.{Tree}
 use Rattle.rule.specs.Pair.{numberAfter, messages}
 use Rattle.rule.specs.Schedules.{Mode, off, Schedule, staysOff}
-use Rattle.rule.specs.Configurations.{potential}
+use Rattle.rule.specs.Configurations.{Configuration, potential}
 use Rattle.requests.specs.Lists.{listOf, combinesIn}
 use Rattle.requests.specs.Reading.{requestsOf, judgedOf}
 use Rattle.requests.specs.declared.Request.{Request}
@@ -134,6 +134,10 @@ Fresh-good = (o : Session) → Fresh o → Good o
 abbrev pub Sums : Type 0
 Sums = (o : Session) → Fresh o → (h : History) (earlier later : List Request) (x : ℕ) → acceptedIn o h ≡ earlier ++ (Combine x ∷ later)
     → getD (answersIn o h) (combinesIn earlier) (pos 0) ≡ fold sum (λ u. lastWritten u (pos 0) earlier) (o .tree .count)
+
+-- The lease number of each ordered pair of neighbours is the paper's configuration of the pair's own list.
+abbrev pub Numbers-configured : Type 0
+Numbers-configured = (o : Session) → Fresh o → (h : History) (u v : ℕ) → Pair o u v → Configuration (ownOf (o .tree) u v (acceptedIn o h)) (leaseOf (sessionAfter o h) u v)
 
 -- For each ordered pair of neighbours, twice its messages is at most five times the cost of any schedule of its own list;
 abbrev pub Bounded : Type 0
