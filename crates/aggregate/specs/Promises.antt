@@ -94,11 +94,11 @@ Stops-midway = (s : Session) (list : List ℕ) (answers : List ℤ) (log : List 
     × (answersOf s (earlierOf list k) answers log place ≡ answersOf s list answers log place)
     × (runLogOf s (earlierOf list k) answers log place ≡ runLogOf s list answers log place)
 
--- Its number tells a caller which of the two it was: a list is refused as a whole with 1, 4, 5, 6 or 10,
+-- The number tells a refusal of the whole list from that of a request: a list is refused as a whole with 1, 4, 5, 6 or 10,
 abbrev pub Whole-numbers : Type 0
 Whole-numbers = (s : Session) (list : List ℕ) (places n : ℕ) → listRefusal s list places ≡ n → 0 < n → OfWhole n
 
--- and one of its requests with 7, 8 or 9.
+-- and stops midway with 7, 8 or 9.
 abbrev pub Stop-numbers : Type 0
 Stop-numbers = (s : Session) (list : List ℕ) (answers : List ℤ) (log : List ℕ) (place n : ℕ) → Typed s → listRefusal s list (length answers) ≡ 0 → ranOf s list answers log place .refusal ≡ n → 0 < n → OfStop n
 

@@ -42,13 +42,13 @@ pub data Call : Type 0 where
 
 -- What comes of a call: all that it returns and leaves, and what it accepted.
 pub record Result : Type 0 where
-  -- what it answers: the number of a refusal or 0, its messages, and the next log place;
+  -- what it answers: the number of a refusal or 0, its messages, and the next log place
   pub refusal : ℕ
   pub messages : ℕ
   pub next : ℕ
-  -- a combine or a write its answer, 0 for a list;
+  -- of a combine or a write the answer; 0 for a list
   pub answer : ℤ
-  -- and a list the index of the request that was refused, how many were done, and how many answers were stored, 0 for a combine or a write
+  -- of a list the index of the request that was refused, how many were done, and how many answers were stored; 0 for a combine or a write
   pub index : ℕ
   pub requests : ℕ
   pub stored : ℕ
