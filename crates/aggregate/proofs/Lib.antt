@@ -14,5 +14,6 @@ pub mod Wholly
 pub mod Underway
 pub mod Listing
 pub mod Lasting
+pub mod Stopping
 pub mod Speaking
 pub mod Outcomes

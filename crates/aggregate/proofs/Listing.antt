@@ -7,20 +7,22 @@ use native.Mathlib.Omega.{arith}
 use lib.Dec.{eqb, leb}
 use lib.IntN.{ℤ}
 use lib.ListN.{length, take}
+use lib.Seq.{length-take-le}
 use borrow.Author.Tests.{ne-eqb, leb-true, leb-false, le-leb, lt-leb}
 use Rattle.tree.proofs.Cases.{lt-or-le}
 use Rattle.requests.specs.Format.{Ruled}
 use Rattle.requests.specs.Lists.{combinesIn}
 use Rattle.requests.specs.Reading.{requestsOf, judgedOf}
 use Rattle.requests.proofs.Refusals.{ruled-exactly}
-use Rattle.requests.proofs.Runs.{counts-right}
+use Rattle.requests.proofs.Runs.{read-sized, counts-right}
+use Rattle.requests.proofs.Written.{list-reads-back}
 use Rattle.session.specs.Soundness.{sound}
 use Rattle.session.specs.declared.Session.{Session}
 use Rattle.session.proofs.Soundly.{sound-exactly}
-use Rattle.aggregate.specs.Running.{start, Ended, runs, listRefusal, endedAs, refused, endOf, ranOf, answersOf, runLogOf, Whole, unread, few-places, unsound, starts}
+use Rattle.aggregate.specs.Running.{start, Ended, runs, listRefusal, endedAs, refused, endOf, ranOf, answersOf, runLogOf, earlierOf, Whole, unread, few-places, unsound, starts}
 use Rattle.aggregate.specs.Promises.{Whole-exactly, Whole-kept, One-by-one, All-done, Stops-midway, Empty-list}
 use Rattle.aggregate.specs.declared.Ran.{Ran}
-use Rattle.aggregate.proofs.Runs.{serves, Reach, reach, combines-first}
+use Rattle.aggregate.proofs.Runs.{serves, Reach, reach, sized-first, combines-first}
 use Rattle.aggregate.proofs.Wholly.{Runnable, runnable-by, Ends, ends, ends-whole}
 
 -- ---- refused as a whole
@@ -102,46 +104,52 @@ all-done s list answers log place z = either s list answers log place
     (λ h. absurd (omega (arith, h, ap (λ (o : Ran). o .refusal) (sym (ran-whole s list answers log place h)) ∙ z)))
 
 -- where a request is refused, its index is the number of those done
-module _ (s : Session) (list : List ℕ) (answers : List ℤ) (log : List ℕ) (place : ℕ) (begun : listRefusal s list (length answers) ≡ 0) (refusing : 0 < ranOf s list answers log place .refusal) where
-  ended-there : 0 < end s list answers log place .refusal
-  ended-there = rw (ran-is s list answers log place begun) at refusing
-
-  index-is : ranOf s list answers log place .index ≡ end s list answers log place .reached .totals .requests
-  index-is = ap (λ (o : Ran). o .index) (ran-is s list answers log place begun) ∙ rw (ne-eqb (end s list answers log place .refusal) 0 (omega (arith, ended-there)))
-
+module _ (s : Session) (list : List ℕ) (answers : List ℤ) (log : List ℕ) (place k : ℕ)
+    (begun : listRefusal s list (length answers) ≡ 0) (refusing : 0 < ranOf s list answers log place .refusal) (index : ranOf s list answers log place .index ≡ k) where
   came : Reach (requestsOf list) (start s answers log place) (end s list answers log place .refusal) (end s list answers log place .reached)
   came = reach (requestsOf list) (start s answers log place)
 
-  done-are : came .k ≡ end s list answers log place .reached .totals .requests
-  done-are = omega (arith, came .counted)
+  ended-there : 0 < end s list answers log place .refusal
+  ended-there = rw (ran-is s list answers log place begun) at refusing
 
-  -- a list of those alone
-  module _ (earlier : List ℕ) (right : judgedOf earlier .refusal ≡ 0) (first : requestsOf earlier ≡ take (ranOf s list answers log place .index) (requestsOf list)) where
-    runnable : Runnable s list (length answers)
-    runnable = runnable-by s list (length answers) begun
+  done-are : end s list answers log place .reached .totals .requests ≡ k
+  done-are = rw (ran-is s list answers log place begun, ne-eqb (end s list answers log place .refusal) 0 (omega (arith, ended-there))) at index
 
-    fewer : combinesIn (requestsOf earlier) ≤ length answers
-    fewer = rw first (omega (arith, runnable .enough, counts-right list (runnable .read) .1, combines-first (ranOf s list answers log place .index) (requestsOf list)))
+  before : k < length (requestsOf list)
+  before = omega (arith, done-are, came .counted, came .short ended-there)
 
-    pub earlier-begun : listRefusal s earlier (length answers) ≡ 0
-    earlier-begun = whole-exactly s earlier (length answers) 0 .1 (starts (ruled-exactly earlier 0 .0 right) fewer (sound-exactly 2 s .1 (runnable .holds)))
+  runnable : Runnable s list (length answers)
+  runnable = runnable-by s list (length answers) begun
 
-    pub earlier-end : endOf s earlier answers log place ≡ record { refusal = 0; reached = end s list answers log place .reached }
-    earlier-end = ap (λ rs. runs rs (start s answers log place)) (first ∙ ap (λ (k : ℕ). take k (requestsOf list)) (index-is ∙ sym done-are)) ∙ came .alone
+  -- the list of those alone
+  read-as : (judgedOf (earlierOf list k) .refusal ≡ 0) × (requestsOf (earlierOf list k) ≡ take k (requestsOf list))
+  read-as = list-reads-back (take k (requestsOf list)) (sized-first k (requestsOf list) (read-sized list))
+      (omega (arith, before, runnable .few, counts-right list (runnable .read) .0, length-take-le k (requestsOf list) (omega (arith, before))))
+
+  fewer : combinesIn (requestsOf (earlierOf list k)) ≤ length answers
+  fewer = rw (read-as .1) (omega (arith, runnable .enough, counts-right list (runnable .read) .1, combines-first k (requestsOf list)))
+
+  earlier-begun : listRefusal s (earlierOf list k) (length answers) ≡ 0
+  earlier-begun = whole-exactly s (earlierOf list k) (length answers) 0 .1 (starts (ruled-exactly (earlierOf list k) 0 .0 (read-as .0)) fewer (sound-exactly 2 s .1 (runnable .holds)))
+
+  earlier-end : endOf s (earlierOf list k) answers log place ≡ record { refusal = 0; reached = end s list answers log place .reached }
+  earlier-end =
+      let e : k ≡ came .k = omega (arith, done-are, came .counted) in
+      ap (λ rs. runs rs (start s answers log place)) (read-as .1 ∙ ap (λ (k : ℕ). take k (requestsOf list)) e) ∙ came .alone
 
 pub stops-midway : Stops-midway
-stops-midway s list earlier answers log place begun refusing right first =
-    let e = earlier-begun s list answers log place begun refusing earlier right first in
-    let i = earlier-end s list answers log place begun refusing earlier right first in
+stops-midway s list answers log place k begun refusing index =
+    let e = earlier-begun s list answers log place k begun refusing index in
+    let i = earlier-end s list answers log place k begun refusing index in
     let r = ran-is s list answers log place begun in
-    let l = came s list answers log place begun refusing in
-    let h = l .short (ended-there s list answers log place begun refusing) in
-    let k = index-is s list answers log place begun refusing in (
-      k ∙ ap (λ (o : Ran). o .totals .requests) (sym r),
-      omega (arith, k, h, l .counted),
-      ran-is s earlier answers log place e ∙ rw (i, r),
-      answers-are s earlier answers log place e ∙ ap (λ (o : Ended). o .reached .answers) i ∙ sym (answers-are s list answers log place begun),
-      log-is s earlier answers log place e ∙ ap (λ (o : Ended). o .reached .log) i ∙ sym (log-is s list answers log place begun),
+    let read = read-as s list answers log place k begun refusing index in (
+      ap (λ (o : Ran). o .totals .requests) r ∙ done-are s list answers log place k begun refusing index,
+      before s list answers log place k begun refusing index,
+      read .0,
+      read .1,
+      ran-is s (earlierOf list k) answers log place e ∙ rw (i, r),
+      answers-are s (earlierOf list k) answers log place e ∙ ap (λ (o : Ended). o .reached .answers) i ∙ sym (answers-are s list answers log place begun),
+      log-is s (earlierOf list k) answers log place e ∙ ap (λ (o : Ended). o .reached .log) i ∙ sym (log-is s list answers log place begun),
     )
 
 pub empty-list : Empty-list

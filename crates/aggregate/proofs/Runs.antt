@@ -81,6 +81,12 @@ reach (r ∷ rs) o = go (reach rs (done r o)) (inTurn r o .outcome .refusal) ref
         rw (refused-there n (runs rs (done r o)) o)
         (record { k = 0; counted = omega arith; within = omega arith; alone = refl; spoken = rw (e, ne-eqb (suc n) 0 (omega arith)); all = λ z. absurd (omega arith); short = λ h. omega arith })
 
+-- the first of sized requests are sized
+pub sized-first : (k : ℕ) (rs : List Request) → AllSized rs → AllSized (take k rs)
+sized-first zero rs sized = tt
+sized-first (suc k) [] sized = tt
+sized-first (suc k) (r ∷ rs) sized = (sized .0, sized-first k rs (sized .1))
+
 -- as many combines among the first as among all, at most
 pub combines-first : (k : ℕ) (rs : List Request) → combinesIn (take k rs) ≤ combinesIn rs
 unfolding combinesIn

@@ -8,12 +8,11 @@ use lib.IntN.{ℤ}
 use lib.ListN.{length}
 use borrow.Author.Tests.{eq-eqb, ne-eqb}
 use Rattle.requests.specs.Lists.{Sized, AllSized, oneIfCombine, combinesIn}
-use Rattle.requests.specs.Reading.{itemAt, told, Hands, requestsOf, judgedOf}
+use Rattle.requests.specs.Reading.{itemAt, told, Hands, requestsOf}
 use Rattle.requests.specs.declared.Request.{Request}
 use Rattle.requests.specs.declared.Request.the-variants.{Combine, Write}
 use Rattle.requests.specs.declared.Item.the-variants.{Found, Short}
 use Rattle.requests.proofs.Items.{item-exactly}
-use Rattle.requests.proofs.Refusals.{accepted, ruled-exactly, judged-whole}
 use Rattle.requests.proofs.Runs.{read-sized, counts-right}
 use Rattle.requests.proofs.Handing.{handed-out}
 use Rattle.requests.proofs.Walk.{one-at-most}
@@ -32,11 +31,6 @@ use Rattle.aggregate.proofs.Runs.{small, stored-length}
 use Rattle.aggregate.proofs.Wholly.{runnable-by}
 
 -- ---- what a list and a request of it bring
-
-few-requests : (list : List ℕ) → judgedOf list .refusal ≡ 0 → judgedOf list .requests ≤ 4096
-few-requests list e =
-    let h = ruled-exactly list 0 .0 e in
-    rw (judged-whole list h) (accepted list h .0 .few)
 
 placed : (r : Request) (k places : ℕ) → k + oneIfCombine r ≤ places → Placed r k places
 placed (Combine x) k places h = omega arith
@@ -70,7 +64,7 @@ underway-first s list answers log place count first typed b =
       hands = rw (b .begins) (handed-out list (a .read));
       same = refl;
       left = omega (arith, b .counted, c .0);
-      few = omega (arith, b .counted, c .0, few-requests list (a .read));
+      few = omega (arith, b .counted, a .few);
       typed = typed;
       holds = a .holds;
       sized = read-sized list;

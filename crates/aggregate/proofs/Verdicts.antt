@@ -1,6 +1,7 @@
 -- A request is accepted or refused, and what it answers, returns and logs in either case.
 use mathlib.Core.Path.{_≡_, refl, sym, ap, _∙_}
 use mathlib.Core.Bool.{true≢false}
+use mathlib.Core.Logic.{inl, inr}
 use mathlib.Core.List.{List}
 use Prim.Native.Nat.{ℕ, zero, suc, _+_, _<_, _≤_}
 use native.Mathlib.Omega.{arith}
@@ -15,12 +16,13 @@ use Rattle.session.specs.Soundness.{limit, Sound}
 use Rattle.session.specs.declared.Session.{Session}
 use Rattle.session.proofs.Soundly.{sound-exactly}
 use Rattle.mechanism.specs.Requests.{nodeOf, says, after}
-use Rattle.mechanism.specs.Refusals.{Ruled, misfit}
+use Rattle.mechanism.specs.Refusals.{Ruled, no-room, misfit}
 use Rattle.mechanism.specs.Refusals as refusals
 use Rattle.mechanism.proofs.Refusing.{ruled-exactly}
+use Rattle.mechanism.proofs.Few.{few-messages}
 use Rattle.mechanism.proofs.Fits.{messages-fit, never-misfit, sum-ranging}
 use Rattle.aggregate.specs.Serving.{refused, accepted, served, refusal, servedOf, logOf}
-use Rattle.aggregate.specs.Promises.{Refused-exactly, Refused-kept, Never-eleven}
+use Rattle.aggregate.specs.Promises.{Refused-exactly, Refused-kept, Never-eleven, Room-enough}
 
 -- what is known of an accepted request
 pub record Accepted (s : Session) (r : Request) (len place : ℕ) : Type 0 where
@@ -86,3 +88,10 @@ never-eleven s r len place typed small e = go (ruling s r len place 11 (sym (num
   where
     go : Ruled 2 s (nodeOf r) len place (says sum s r .log) 11 → ⊥
     go (misfit a h k l f) = true≢false (sym (never-misfit (says sum s r .log) (messages-fit sum 2 sum-ranging s typed (sound-exactly 2 s .0 a) r small h)) ∙ f)
+
+pub room-enough : Room-enough
+room-enough s r len place enough e = go (ruling s r len place 9 (sym (number-is s r len place) ∙ e))
+  where
+    go : Ruled 2 s (nodeOf r) len place (says sum s r .log) 9 → ⊥
+    go (no-room a h k (inl l)) = omega (arith, enough, l)
+    go (no-room a h k (inr l)) = omega (arith, enough, l, few-messages sum 2 s (sound-exactly 2 s .0 a) r h .1)

@@ -11,6 +11,7 @@ use lib.ListN.{length}
 use borrow.Author.Tests.{eq-eqb, ne-eqb, le-leb, lt-leb, leb-true}
 use Rattle.requests.specs.Reading.{judgedOf}
 use Rattle.requests.specs.declared.Judged.{Judged}
+use Rattle.requests.proofs.Refusals.{accepted, ruled-exactly, judged-whole}
 use Rattle.session.specs.Soundness.{sound, Sound}
 use Rattle.session.specs.declared.Session.{Session}
 use Rattle.session.proofs.Soundly.{sound-exactly}
@@ -32,6 +33,7 @@ all-passed (suc n) b c e = let f : suc n ≡ 0 = rw (ne-eqb (suc n) 0 (omega ari
 -- what is known of a list that is not refused as a whole
 pub record Runnable (s : Session) (list : List ℕ) (places : ℕ) : Type 0 where
   pub read : judgedOf list .refusal ≡ 0
+  pub few : judgedOf list .requests ≤ 4096
   pub enough : judgedOf list .combines ≤ places
   pub holds : Sound 2 s
 
@@ -39,7 +41,8 @@ pub runnable-by : (s : Session) (list : List ℕ) (places : ℕ) → listRefusal
 unfolding listRefusal chain
 runnable-by s list places e =
     let t = all-passed (judgedOf list .refusal) (leb (judgedOf list .combines) places) (sound 2 s) e in
-    record { read = t .0; enough = leb-true (judgedOf list .combines) places (t .1); holds = sound-exactly 2 s .0 (t .2) }
+    let h = ruled-exactly list 0 .0 (t .0) in
+    record { read = t .0; few = rw (judged-whole list h) (accepted list h .0 .few); enough = leb-true (judgedOf list .combines) places (t .1); holds = sound-exactly 2 s .0 (t .2) }
 
 module _ (s : Session) (list : List ℕ) (answers : List ℤ) (log : List ℕ) (place : ℕ) where
   -- this result, these answer places and this log are what the list comes to

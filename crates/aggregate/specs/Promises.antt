@@ -6,6 +6,7 @@ use Prim.Native.Nat.{ℕ, _+_, _≤_, _<_}
 use lib.IntN.{ℤ, pos}
 use lib.ListN.{length, take, getD}
 use Rattle.fields.specs.Bits.{bit}
+use Rattle.fields.specs.Usable.{usableBits}
 use Rattle.tree.specs.Operation.{sum}
 use Rattle.messages.specs.Reading.{Reads, messagesFrom}
 use Rattle.requests.specs.Lists.{combinesIn}
@@ -17,7 +18,7 @@ use Rattle.session.specs.declared.Session.{Session}
 use Rattle.mechanism.specs.Requests.{nodeOf, Small, says}
 use Rattle.mechanism.specs.Refusals.{Ruled}
 use Rattle.aggregate.specs.Serving.{refused, servedOf, logOf}
-use Rattle.aggregate.specs.Running.{running, start, endedAs, listRefusal, ranOf, answersOf, runLogOf, Whole, Serves, spokenOf}
+use Rattle.aggregate.specs.Running.{running, start, endedAs, listRefusal, ranOf, answersOf, runLogOf, earlierOf, Whole, Serves, OfWhole, OfStop, spokenOf}
 use Rattle.aggregate.specs.Running.{refused as refusedList}
 
 -- A request is refused exactly as document 01 says,
@@ -32,6 +33,10 @@ Refused-kept = (s : Session) (r : Request) (log : List ℕ) (place : ℕ) → 0 
 -- and never with 11.
 abbrev pub Never-eleven : Type 0
 Never-eleven = (s : Session) (r : Request) (len place : ℕ) → Typed s → Small r → servedOf s r len place .outcome .refusal ≢ 11
+
+-- 19,380 usable bits from the place on are room for every request: it is not refused with 9.
+abbrev pub Room-enough : Type 0
+Room-enough = (s : Session) (r : Request) (len place : ℕ) → place + 19380 ≤ usableBits len → servedOf s r len place .outcome .refusal ≢ 9
 
 -- The log of an accepted request reads back as its messages, to the next place, and the messages it answers are those records;
 abbrev pub Logged-exactly : Type 0
@@ -79,14 +84,23 @@ abbrev pub All-done : Type 0
 All-done = (s : Session) (list : List ℕ) (answers : List ℤ) (log : List ℕ) (place : ℕ) → ranOf s list answers log place .refusal ≡ 0
     → (ranOf s list answers log place .index ≡ 0) × (ranOf s list answers log place .totals .requests ≡ length (requestsOf list)) × (ranOf s list answers log place .totals .answers ≡ combinesIn (requestsOf list))
 
--- where one is refused, its index is the number of those done, and what is left is what the list of those alone leaves.
+-- where one is refused, its index k is the number of those done; the list of the k requests before it is read as they are, and alone leaves what is left.
 abbrev pub Stops-midway : Type 0
-Stops-midway = (s : Session) (list earlier : List ℕ) (answers : List ℤ) (log : List ℕ) (place : ℕ) → listRefusal s list (length answers) ≡ 0 → 0 < ranOf s list answers log place .refusal
-    → judgedOf earlier .refusal ≡ 0 → requestsOf earlier ≡ take (ranOf s list answers log place .index) (requestsOf list)
-    → (ranOf s list answers log place .index ≡ ranOf s list answers log place .totals .requests) × (ranOf s list answers log place .index < length (requestsOf list))
-    × (ranOf s earlier answers log place ≡ endedAs 0 (ranOf s list answers log place .totals) (ranOf s list answers log place .session))
-    × (answersOf s earlier answers log place ≡ answersOf s list answers log place)
-    × (runLogOf s earlier answers log place ≡ runLogOf s list answers log place)
+Stops-midway = (s : Session) (list : List ℕ) (answers : List ℤ) (log : List ℕ) (place k : ℕ) → listRefusal s list (length answers) ≡ 0
+    → 0 < ranOf s list answers log place .refusal → ranOf s list answers log place .index ≡ k
+    → (ranOf s list answers log place .totals .requests ≡ k) × (k < length (requestsOf list))
+    × (judgedOf (earlierOf list k) .refusal ≡ 0) × (requestsOf (earlierOf list k) ≡ take k (requestsOf list))
+    × (ranOf s (earlierOf list k) answers log place ≡ endedAs 0 (ranOf s list answers log place .totals) (ranOf s list answers log place .session))
+    × (answersOf s (earlierOf list k) answers log place ≡ answersOf s list answers log place)
+    × (runLogOf s (earlierOf list k) answers log place ≡ runLogOf s list answers log place)
+
+-- The number tells a refusal of the whole list from that of a request: a list is refused as a whole with 1, 4, 5, 6 or 10,
+abbrev pub Whole-numbers : Type 0
+Whole-numbers = (s : Session) (list : List ℕ) (places n : ℕ) → listRefusal s list places ≡ n → 0 < n → OfWhole n
+
+-- and stops midway with 7, 8 or 9.
+abbrev pub Stop-numbers : Type 0
+Stop-numbers = (s : Session) (list : List ℕ) (answers : List ℤ) (log : List ℕ) (place n : ℕ) → Typed s → listRefusal s list (length answers) ≡ 0 → ranOf s list answers log place .refusal ≡ n → 0 < n → OfStop n
 
 -- An empty list looks at no log place.
 abbrev pub Empty-list : Type 0

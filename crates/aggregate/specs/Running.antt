@@ -1,15 +1,16 @@
 -- What running a list answers, the session it returns, and the answer places and the log that it leaves.
 use mathlib.Core.Path.{_≡_}
 use mathlib.Core.Bool.{true, false, cond}
+use mathlib.Core.Logic.{_⊎_}
 use mathlib.Core.List.{List, [], _∷_, _++_}
 use Prim.Native.Nat.{ℕ, zero, suc, _+_, _<_, _≤_}
 use lib.Dec.{eqb, leb}
 use lib.IntN.{ℤ}
-use lib.ListN.{length, set}
+use lib.ListN.{length, take, set}
 use Rattle.tree.specs.Operation.{sum}
 use Rattle.messages.specs.declared.Message.{Message}
 use Rattle.requests.specs.Format.{Ruled}
-use Rattle.requests.specs.Lists.{oneIfCombine, combinesIn}
+use Rattle.requests.specs.Lists.{listOf, oneIfCombine, combinesIn}
 use Rattle.requests.specs.Reading.{requestsOf, judgedOf}
 use Rattle.requests.specs.declared.Request.{Request}
 use Rattle.requests.specs.declared.Request.the-variants.{Combine, Write}
@@ -100,6 +101,10 @@ answersOf s list answers log place = cond (eqb (listRefusal s list (length answe
 unfoldable pub runLogOf : Session → List ℕ → List ℤ → List ℕ → ℕ → List ℕ
 runLogOf s list answers log place = cond (eqb (listRefusal s list (length answers)) 0) (endOf s list answers log place .reached .log) log
 
+-- the list of its first k requests
+abbrev pub earlierOf : List ℕ → ℕ → List ℕ
+earlierOf list k = listOf (take k (requestsOf list))
+
 -- ---- the same in document 01's words
 
 -- a list is refused as a whole: as its reader refuses it, then with 10, then with 6; 0 is no refusal
@@ -114,6 +119,13 @@ pub data Serves (n : ℕ) (o′ : Running) : List Request → Running → Type 0
   all-done : n ≡ 0 → Serves n o′ [] o′
   stopped : (r : Request) (rs : List Request) → 0 < n → inTurn r o′ .outcome .refusal ≡ n → Serves n o′ (r ∷ rs) o′
   accepted : (r : Request) (rs : List Request) (o : Running) → inTurn r o .outcome .refusal ≡ 0 → Serves n o′ rs (done r o) → Serves n o′ (r ∷ rs) o
+
+-- the numbers of a list that is refused as a whole, and of one that stops midway
+abbrev pub OfWhole : ℕ → Type 0
+OfWhole n = (n ≡ 1) ⊎ ((n ≡ 4) ⊎ ((n ≡ 5) ⊎ ((n ≡ 6) ⊎ (n ≡ 10))))
+
+abbrev pub OfStop : ℕ → Type 0
+OfStop n = (n ≡ 7) ⊎ ((n ≡ 8) ⊎ (n ≡ 9))
 
 -- the messages of the requests that were done, in their order
 unfoldable pub spokenIn : List Request → Running → List Message

@@ -5,14 +5,15 @@ use native.Mathlib.Omega.{arith}
 use lib.ListN.{length}
 use Rattle.tree.specs.Operation.{sum}
 use Rattle.tree.specs.Tours.{kept}
-use Rattle.rule.specs.Pair.{messages}
+use Rattle.rule.specs.Pair.{numberAfter, messages}
 use Rattle.rule.proofs.Bound.{bound, five-halves}
+use Rattle.rule.proofs.Configurations.{configured}
 use Rattle.session.specs.Holding.{leaseOf, sentOf}
 use Rattle.session.specs.declared.Session.{Session}
 use Rattle.mechanism.specs.Pairwise.{about, Pair}
 use Rattle.mechanism.proofs.Fits.{sum-ranging}
-use Rattle.history.specs.History.{History, acceptedIn, loggedIn, Good, ownOf}
-use Rattle.history.specs.Promises.{Numbers-ruled, Counts-ruled, Counts-logged, Bounded-from, Bounded, Logged}
+use Rattle.history.specs.History.{History, sessionAfter, acceptedIn, loggedIn, Good, ownOf}
+use Rattle.history.specs.Promises.{Numbers-ruled, Counts-ruled, Counts-logged, Bounded-from, Numbers-configured, Bounded, Logged}
 use Rattle.history.proofs.Owning.{number-all, sent-all, spoken-all}
 use Rattle.history.proofs.Histories.{trusted, came}
 use Rattle.history.proofs.Beginning.{fresh-good, no-lease, no-messages}
@@ -40,6 +41,11 @@ pub bounded-from : Bounded-from
 bounded-from o g h u v p m c d = omega (arith, counts-ruled o g h u v p, bound m (leaseOf o u v) (ownOf (o .tree) u v (acceptedIn o h)) c d)
 
 -- ---- from a fresh session on
+
+pub numbers-configured : Numbers-configured
+numbers-configured o f h u v p =
+    let l = ownOf (o .tree) u v (acceptedIn o h) in
+    configured l (leaseOf (sessionAfter o h) u v) .1 (ap (λ (k : ℕ). numberAfter 2 k l) (sym (no-lease o f u v)) ∙ sym (numbers-ruled o (fresh-good o f) h u v p))
 
 pub logged : Logged
 logged o f h u v p = omega (arith, counts-logged o (fresh-good o f) h u v p, no-messages o f u v)

@@ -25,13 +25,12 @@ use Rattle.aggregate.specs.Serving.{servedOf, logOf}
 use Rattle.aggregate.specs.Running.{Running, start, Ended, runs, listRefusal, endOf, ranOf, answersOf, runLogOf, spokenIn}
 use Rattle.aggregate.proofs.Verdicts.{answers, refuses, logs-nothing, verdict}
 use Rattle.aggregate.proofs.Logging.{logged-exactly}
-use Rattle.aggregate.proofs.Runs.{serves, Reach, reach, combines-first}
+use Rattle.aggregate.proofs.Runs.{serves, Reach, reach, combines-first, sized-first}
 use Rattle.aggregate.proofs.Wholly.{runnable-by}
 use Rattle.aggregate.proofs.Listing.{either, ran-whole, answers-whole, log-whole, ran-is, answers-are, log-is}
 use Rattle.aggregate.proofs.Speaking.{spoke, run-logged}
-use Rattle.history.specs.History.{Call, combine, write, run, Result, answerOf, ofRequest, ofList, result, fromPlace, Good}
+use Rattle.history.specs.History.{Call, combine, write, run, Result, answerOf, ofRequest, ofList, result, fromPlace, refusedWith, Good}
 use Rattle.history.specs.Promises.{Refused-returns, Nothing-changed, Messages-logged}
-use Rattle.history.proofs.Lists.{sized-first}
 use Rattle.history.proofs.Succession.{afterAll, answersTo, spokenBy, AllInOrder}
 use Rattle.history.proofs.Done.{in-order-by, Went, went}
 
@@ -49,8 +48,7 @@ abbrev pub Comes : Session → Call → Type 0
 Comes s c = Follows s (fromPlace c) (result s c)
 
 -- where nothing is accepted, with zeros
-follows-none : (s : Session) (place n : ℕ) (places : List ℤ) (log : List ℕ)
-    → Follows s place (record { refusal = n; messages = 0; next = 0; accepted = []; answers = []; session = s; places = places; log = log })
+follows-none : (s : Session) (place n : ℕ) (places : List ℤ) (log : List ℕ) → Follows s place (refusedWith n s places log)
 unfolding afterAll answersTo spokenBy messagesFrom
 follows-none s place n places log = record { in-order = tt; session-is = refl; answers-are = refl; logged-are = refl; counted = refl; moved = λ d. absurd (d refl) }
 
@@ -58,6 +56,10 @@ follows-none s place n places log = record { in-order = tt; session-is = refl; a
 
 abbrev ofOne : Session → Request → List ℕ → ℕ → Result
 ofOne s r log place = ofRequest r (servedOf s r (length log) place) (logOf s r log place)
+
+refused-one : (s : Session) (r : Request) (log : List ℕ) (place : ℕ) → 0 < servedOf s r (length log) place .outcome .refusal
+    → ofOne s r log place ≡ refusedWith (servedOf s r (length log) place .outcome .refusal) s [] log
+refused-one s r log place l = rw (refuses s r (length log) place l, logs-nothing s r log place l, ne-eqb (servedOf s r (length log) place .outcome .refusal) 0 (omega (arith, l)))
 
 follows-one : (s : Session) (r : Request) (log : List ℕ) (place : ℕ) → Typed s → Small r → Follows s place (ofOne s r log place)
 unfolding afterAll answersTo spokenBy
@@ -75,7 +77,7 @@ follows-one s r log place typed h = verdict s r (length log) place
       counted = ap length (sym (append-nil said));
       moved = λ d. ap (λ (ms : List Message). place + bitsOfAll ms) (sym (append-nil said));
     }))
-    (λ l. rw (refuses s r (length log) place l, ne-eqb (servedOf s r (length log) place .outcome .refusal) 0 (omega (arith, l))) (follows-none s place _ [] (logOf s r log place)))
+    (λ l. rw (refused-one s r log place l) (follows-none s place _ [] log))
 
 -- ---- a list
 
@@ -113,6 +115,9 @@ module _ (s : Session) (list : List ℕ) (places : List ℤ) (log : List ℕ) (p
   abbrev ofAll : Result
   ofAll = ofList list (ranOf s list places log place) (answersOf s list places log place) (runLogOf s list places log place)
 
+  refused-list : 0 < listRefusal s list (length places) → ofAll ≡ refusedWith (ranOf s list places log place .refusal) s places log
+  refused-list l = rw (ran-whole s list places log place l, answers-whole s list places log place l, log-whole s list places log place l)
+
   -- where its requests are served
   module _ (begun : listRefusal s list (length places) ≡ 0) where
     enough : combinesIn these ≤ length places
@@ -148,7 +153,7 @@ module _ (s : Session) (list : List ℕ) (places : List ℤ) (log : List ℕ) (p
   follows-list : Typed s → Follows s place ofAll
   follows-list typed = either s list places log place
       (λ begun. follows-served begun typed)
-      (λ l. rw (ran-whole s list places log place l) (follows-none s place _ (answersOf s list places log place) (runLogOf s list places log place)))
+      (λ l. rw (refused-list l) (follows-none s place _ places log))
 
 -- ---- a call
 
@@ -183,12 +188,8 @@ nothing-changed s (combine x log place) = kept-one s (Combine x) log place
 nothing-changed s (write x value small log place) = kept-one s (Write x value) log place
 nothing-changed s (run list places log place) = kept-list s list places log place
 
-refused-one : (s : Session) (r : Request) (log : List ℕ) (place : ℕ) → 0 < servedOf s r (length log) place .outcome .refusal
-    → ofOne s r log place ≡ record { refusal = servedOf s r (length log) place .outcome .refusal; messages = 0; next = 0; accepted = []; answers = []; session = s; places = []; log = log }
-refused-one s r log place l = rw (refuses s r (length log) place l, logs-nothing s r log place l, ne-eqb (servedOf s r (length log) place .outcome .refusal) 0 (omega (arith, l)))
-
 pub refused-returns : Refused-returns
 unfolding result
 refused-returns s (combine x log place) = refused-one s (Combine x) log place
 refused-returns s (write x value small log place) = refused-one s (Write x value) log place
-refused-returns s (run list places log place) = λ l. rw (ran-whole s list places log place l, answers-whole s list places log place l, log-whole s list places log place l)
+refused-returns s (run list places log place) = refused-list s list places log place

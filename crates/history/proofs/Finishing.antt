@@ -7,16 +7,14 @@ use lib.IntN.{ℤ}
 use lib.ListN.{length, take}
 use lib.Seq.{take-length}
 use Rattle.fields.specs.Usable.{usableBits}
-use Rattle.packed.proofs.Packing.{packed-bytes}
 use Rattle.tree.specs.Operation.{sum}
 use Rattle.messages.specs.Writing.{bitsOfAll}
 use Rattle.messages.specs.declared.Message.{Message}
 use Rattle.messages.proofs.Stretches.{bits-append}
-use Rattle.requests.specs.Lists.{AllSized, listParts, listOf, combinesIn}
-use Rattle.requests.specs.Reading.{requestsOf, judgedOf}
+use Rattle.requests.specs.Lists.{AllSized, listOf, combinesIn}
 use Rattle.requests.specs.declared.Request.{Request}
 use Rattle.requests.proofs.Refusals.{ruled-exactly}
-use Rattle.requests.proofs.Exactly.{list-exactly}
+use Rattle.requests.proofs.Written.{list-reads-back}
 use Rattle.session.specs.declared.Session.{Session}
 use Rattle.session.proofs.Soundly.{sound-exactly}
 use Rattle.mechanism.specs.Requests.{says, after}
@@ -33,10 +31,6 @@ use Rattle.history.proofs.Succession.{InOrder, Trusted, afterAll, spoke
 use Rattle.history.proofs.Steps.{trusted-after}
 use Rattle.history.proofs.Done.{went}
 use Rattle.history.proofs.Histories.{trusted}
-
--- the list of requests is accepted by the list's reader
-pub list-read : (rs : List Request) → AllSized rs → length rs ≤ 4096 → (judgedOf (listOf rs) .refusal ≡ 0) × (requestsOf (listOf rs) ≡ rs)
-list-read rs sized few = list-exactly (listOf rs) rs (packed-bytes (listParts rs)) sized few .1 refl
 
 -- ---- the requests
 
@@ -86,7 +80,7 @@ module _ (s : Session) (rs : List Request) (places : List ℤ) (log : List ℕ) 
       → Finished s rs place (result s (run (listOf rs) places log place))
   unfolding result
   finished good sized few h enough room =
-      let read = list-read rs sized few in
+      let read = list-reads-back rs sized few in
       let begun : listRefusal s (listOf rs) (length places) ≡ 0
       = whole-exactly s (listOf rs) (length places) 0 .1 (starts (ruled-exactly (listOf rs) 0 .0 (read .0)) (rw (read .1) enough) (sound-exactly 2 s .1 (good .holds))) in
       let ended = finishes rs first (trusted s good) h room in

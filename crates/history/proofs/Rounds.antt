@@ -20,6 +20,7 @@ use Rattle.messages.specs.declared.Message.{Message}
 use Rattle.messages.proofs.Stretches.{bits-append}
 use Rattle.requests.specs.Lists.{AllSized, listOf, combinesIn}
 use Rattle.requests.specs.declared.Request.{Request}
+use Rattle.requests.proofs.Written.{list-reads-back}
 use Rattle.session.specs.Holding.{leaseOf, sentOf}
 use Rattle.session.specs.Starting.{startedOf}
 use Rattle.session.specs.declared.Session.{Session}
@@ -36,7 +37,7 @@ use Rattle.history.proofs.Histories.{trusted}
 use Rattle.history.proofs.Beginning.{fresh-good, no-lease, no-messages, none-accepted}
 use Rattle.history.proofs.TwoNodes.{up-root, up-leaf, down-root, down-leaf, edge, two-nodes}
 use Rattle.history.proofs.Orderly.{AllBelow, in-order-few}
-use Rattle.history.proofs.Finishing.{list-read, Finished, finished}
+use Rattle.history.proofs.Finishing.{Finished, finished}
 use Rattle.history.proofs.Bits.{bitsAt, bitsIn, bits-all}
 
 -- whatever is written
@@ -79,7 +80,7 @@ rounds-bits zero = refl
 rounds-bits (suc n) = omega (arith, rounds-bits n)
 
 pub rounds-read : Rounds-read
-rounds-read y z small n most = list-read (roundsOf y z n) (rounds-sized y z small n) (omega (arith, most, rounds-length y z n))
+rounds-read y z small n most = list-reads-back (roundsOf y z n) (rounds-sized y z small n) (omega (arith, most, rounds-length y z n))
 
 -- ---- on a fresh session of two nodes
 

@@ -5,7 +5,7 @@ use mathlib.Core.Logic.{_≢_}
 use mathlib.Core.List.{List, [], _∷_, _++_}
 use Prim.Native.Nat.{ℕ, zero, suc, _+_, _*_, _≤_, _<_}
 use lib.Dec.{eqb}
-use lib.IntN.{ℤ}
+use lib.IntN.{ℤ, pos}
 use lib.ListN.{length, take}
 use Rattle.fields.specs.Usable.{usableBits}
 use Rattle.twos.specs.Twos.{within}
@@ -40,12 +40,18 @@ pub data Call : Type 0 where
   write : (x : ℕ) (value : ℤ) → within 32 value ≡ true → (log : List ℕ) (place : ℕ) → Call
   run : (list : List ℕ) (answers : List ℤ) (log : List ℕ) (place : ℕ) → Call
 
--- What comes of a call.
+-- What comes of a call: all that it returns and leaves, and what it accepted.
 pub record Result : Type 0 where
   -- what it answers: the number of a refusal or 0, its messages, and the next log place
   pub refusal : ℕ
   pub messages : ℕ
   pub next : ℕ
+  -- of a combine or a write the answer; 0 for a list
+  pub answer : ℤ
+  -- of a list the index of the request that was refused, how many were done, and how many answers were stored; 0 for a combine or a write
+  pub index : ℕ
+  pub requests : ℕ
+  pub stored : ℕ
   -- the requests that it accepted, in order, and the answers of the combines among them
   pub accepted : List Request
   pub answers : List ℤ
@@ -66,6 +72,10 @@ ofRequest r d log =
       refusal = d .outcome .refusal;
       messages = d .outcome .messages;
       next = d .outcome .next;
+      answer = d .outcome .answer;
+      index = 0;
+      requests = 0;
+      stored = 0;
       accepted = when (eqb (d .outcome .refusal) 0) (r ∷ []);
       answers = when (eqb (d .outcome .refusal) 0) (answerOf r (d .outcome .answer));
       session = d .session;
@@ -80,6 +90,10 @@ ofList list d places log =
       refusal = d .refusal;
       messages = d .totals .messages;
       next = d .totals .next;
+      answer = pos 0;
+      index = d .index;
+      requests = d .totals .requests;
+      stored = d .totals .answers;
       accepted = take (d .totals .requests) (requestsOf list);
       answers = take (d .totals .answers) places;
       session = d .session;
@@ -115,8 +129,9 @@ Refused s (combine x log place) = 0 < servedOf s (Combine x) (length log) place 
 Refused s (write x value small log place) = 0 < servedOf s (Write x value) (length log) place .outcome .refusal
 Refused s (run list answers log place) = 0 < listRefusal s list (length answers)
 
-abbrev pub refusedWith : ℕ → Session → Call → Result
-refusedWith n s c = record { refusal = n; messages = 0; next = 0; accepted = []; answers = []; session = s; places = lentPlaces c; log = lentLog c }
+abbrev pub refusedWith : ℕ → Session → List ℤ → List ℕ → Result
+refusedWith n s places log =
+    record { refusal = n; messages = 0; next = 0; answer = pos 0; index = 0; requests = 0; stored = 0; accepted = []; answers = []; session = s; places = places; log = log }
 
 -- the messages that a call logged: those that stand in the log from its place to the next one
 abbrev pub loggedBy : Session → Call → List Message

@@ -9,18 +9,22 @@ use denote.Ref.{now}
 use Rattle.twos.specs.Twos.{within}
 use Rattle.tree.specs.Operation.{fold, sum}
 use Rattle.tree.specs.Tours.{kept}
+use Rattle.tree.specs.declared.Tree.{Tree}
 use Rattle.rule.specs.Pair.{numberAfter, messages}
 use Rattle.rule.specs.Schedules.{Mode, off, Schedule, staysOff}
-use Rattle.rule.specs.Configurations.{potential}
+use Rattle.rule.specs.Configurations.{Configuration, potential}
 use Rattle.requests.specs.Lists.{listOf, combinesIn}
 use Rattle.requests.specs.Reading.{requestsOf, judgedOf}
 use Rattle.requests.specs.declared.Request.{Request}
 use Rattle.requests.specs.declared.Request.the-variants.{Combine, Write}
 use Rattle.session.specs.Holding.{valueOf, leaseOf, sentOf}
 use Rattle.session.specs.declared.Session.{Session}
+use Rattle.session.specs.declared.Started.{Started}
 use Rattle.mechanism.specs.Pairwise.{about, Pair}
 use Rattle.session.proofs.Session.load.Reads as load-contract
 use Rattle.session.proofs.Session.fresh.Reads as fresh-contract
+use Rattle.aggregate.specs.declared.Served.{Served}
+use Rattle.aggregate.specs.declared.Ran.{Ran}
 use Rattle.aggregate.proofs.combine.Reads as combine-contract
 use Rattle.aggregate.proofs.write.Reads as write-contract
 use Rattle.aggregate.proofs.run.Reads as run-contract
@@ -28,33 +32,39 @@ use Rattle.history.specs.History.{Call, combine, write, run, ofRequest, 
 
 -- ---- the contracts
 
--- What comes of a call is what the function's own contract allows, its `Post`: a has the arguments in their order, r is the result, and e has the arguments at the return. That of `combine`,
+-- What comes of a call is what the function's own contract allows, its `Post`: of the arguments in their order, the result, and the arguments at the return, here with a prime. `now` is what stands in lent memory. That of `combine`,
 abbrev pub Combine-contract : Type 0
-Combine-contract = (κ : _) (a : _) (r : _) (e : _) → combine-contract.Post κ a r e
-    → result (a .0) (combine (a .1 .0) (now (a .1 .1 .0)) (a .1 .1 .1 .0)) ≡ ofRequest (Combine (a .1 .0)) r (now (e .1 .1 .0))
+Combine-contract = (κ : _) (session session′ : Session) (x x′ : ℕ) (log log′ : _) (place place′ : ℕ) (served : Served)
+    → combine-contract.Post κ (session, (x, (log, (place, tt)))) served (session′, (x′, (log′, (place′, tt))))
+    → result session (combine x (now log) place) ≡ ofRequest (Combine x) served (now log′)
 
--- that of `write`,
+-- that of `write`, where the type of the value says that it has 32 bits,
 abbrev pub Write-contract : Type 0
-Write-contract = (κ : _) (a : _) (r : _) (e : _) → write-contract.Post κ a r e → (small : within 32 (a .1 .1 .0) ≡ true)
-    → result (a .0) (write (a .1 .0) (a .1 .1 .0) small (now (a .1 .1 .1 .0)) (a .1 .1 .1 .1 .0)) ≡ ofRequest (Write (a .1 .0) (a .1 .1 .0)) r (now (e .1 .1 .1 .0))
+Write-contract = (κ : _) (session session′ : Session) (x x′ : ℕ) (value value′ : ℤ) (log log′ : _) (place place′ : ℕ) (served : Served)
+    → write-contract.Post κ (session, (x, (value, (log, (place, tt))))) served (session′, (x′, (value′, (log′, (place′, tt))))) → (small : within 32 value ≡ true)
+    → result session (write x value small (now log) place) ≡ ofRequest (Write x value) served (now log′)
 
 -- and that of `run`.
 abbrev pub Run-contract : Type 0
-Run-contract = (κ : _) (a : _) (r : _) (e : _) → run-contract.Post κ a r e
-    → result (a .0) (run (now (a .1 .0)) (now (a .1 .1 .0)) (now (a .1 .1 .1 .0)) (a .1 .1 .1 .1 .0)) ≡ ofList (now (a .1 .0)) r (now (e .1 .1 .0)) (now (e .1 .1 .1 .0))
+Run-contract = (κ : _) (session session′ : Session) (list list′ answers answers′ log log′ : _) (place place′ : ℕ) (ran : Ran)
+    → run-contract.Post κ (session, (list, (answers, (log, (place, tt))))) ran (session′, (list′, (answers′, (log′, (place′, tt)))))
+    → result session (run (now list) (now answers) (now log) place) ≡ ofList (now list) ran (now answers′) (now log′)
 
--- A session that `Session::load` or `Session::fresh` returns is fresh, where it answers 0.
+-- A session that `Session::load` returns is fresh, where it answers 0;
 abbrev pub Load-contract : Type 0
-Load-contract = (κ : _) (a : _) (r : _) (e : _) → load-contract.Post κ a r e → r .refusal ≡ 0 → Fresh (r .session)
+Load-contract = (κ : _) (session session′ : Session) (bytes bytes′ : _) (begun : Started) → load-contract.Post κ (session, (bytes, tt)) begun (session′, (bytes′, tt))
+    → begun .refusal ≡ 0 → Fresh (begun .session)
 
+-- and so is one that `Session::fresh` returns, where the type of a tree says that it has 256 parents.
 abbrev pub Fresh-contract : Type 0
-Fresh-contract = (κ : _) (a : _) (r : _) (e : _) → fresh-contract.Post κ a r e → length (a .0 .parents) ≡ 256 → r .refusal ≡ 0 → Fresh (r .session)
+Fresh-contract = (κ : _) (tree tree′ : Tree) (begun : Started) → fresh-contract.Post κ (tree, tt) begun (tree′, tt) → length (tree .parents) ≡ 256
+    → begun .refusal ≡ 0 → Fresh (begun .session)
 
 -- ---- from any session on
 
 -- A refused call returns its number with zeros, and the session, the answer places and the log as they were;
 abbrev pub Refused-returns : Type 0
-Refused-returns = (s : Session) (c : Call) → Refused s c → result s c ≡ refusedWith (result s c .refusal) s c
+Refused-returns = (s : Session) (c : Call) → Refused s c → result s c ≡ refusedWith (result s c .refusal) s (lentPlaces c) (lentLog c)
 
 -- they are so after every call that accepts no request, as where the first request of a list is refused.
 abbrev pub Nothing-changed : Type 0
@@ -124,6 +134,10 @@ Fresh-good = (o : Session) → Fresh o → Good o
 abbrev pub Sums : Type 0
 Sums = (o : Session) → Fresh o → (h : History) (earlier later : List Request) (x : ℕ) → acceptedIn o h ≡ earlier ++ (Combine x ∷ later)
     → getD (answersIn o h) (combinesIn earlier) (pos 0) ≡ fold sum (λ u. lastWritten u (pos 0) earlier) (o .tree .count)
+
+-- The lease number of each ordered pair of neighbours is the paper's configuration of the pair's own list.
+abbrev pub Numbers-configured : Type 0
+Numbers-configured = (o : Session) → Fresh o → (h : History) (u v : ℕ) → Pair o u v → Configuration (ownOf (o .tree) u v (acceptedIn o h)) (leaseOf (sessionAfter o h) u v)
 
 -- For each ordered pair of neighbours, twice its messages is at most five times the cost of any schedule of its own list;
 abbrev pub Bounded : Type 0

@@ -9,4 +9,5 @@ pub mod OneField
 pub mod Runs
 pub mod Handing
 pub mod Exactly
+pub mod Written
 pub mod Outcomes

@@ -31,6 +31,10 @@ Counts-right = (s : List ℕ) → judgedOf s .refusal ≡ 0 → (judgedOf s .req
 abbrev pub List-exactly : Type 0
 List-exactly = (s : List ℕ) (rs : List Request) → Bytes s → AllSized rs → length rs ≤ 4096 → ((judgedOf s .refusal ≡ 0) × (requestsOf s ≡ rs)) ↔ (s ≡ listOf rs)
 
+-- So the bytes of a list of up to 4,096 requests are read as these requests.
+abbrev pub List-reads-back : Type 0
+List-reads-back = (rs : List Request) → AllSized rs → length rs ≤ 4096 → (judgedOf (listOf rs) .refusal ≡ 0) × (requestsOf (listOf rs) ≡ rs)
+
 -- What is read has a byte for a node and 32 bits for a value.
 abbrev pub Read-sized : Type 0
 Read-sized = (s : List ℕ) → AllSized (requestsOf s)
