@@ -15,15 +15,17 @@ use Rattle.requests.specs.declared.Request.{Request}
 use Rattle.session.specs.Holding.{Typed}
 use Rattle.session.specs.Soundness.{sound, Sound}
 use Rattle.session.specs.declared.Session.{Session}
-use Rattle.mechanism.specs.Requests.{nodeOf, Small, says, after}
+use Rattle.requests.specs.Lists.{nodeOf, Small}
+use Rattle.mechanism.specs.Requests.{says, after}
 use Rattle.mechanism.specs.Refusals.{allFit, refusalOf}
 use Rattle.mechanism.proofs.Few.{few-messages}
 use Rattle.mechanism.proofs.Fits.{messages-fit, never-misfit, sum-ranging}
-use Rattle.trace.specs.Traces.{messagesOf, trace, pushedAll, loggedOf, logAfterAll}
+use Rattle.trace.specs.inner.Traces.{messagesOf, trace, pushedAll, loggedOf, logAfterAll}
 use Rattle.trace.specs.declared.Logged.{Logged}
 use Rattle.trace.specs.declared.Logged.the-variants.{Next, Full}
 use Rattle.trace.proofs.Traced.{trace-holds}
-use Rattle.aggregate.specs.Serving.{refused, refusal, servedOf, logOf, earlyRefusal}
+use Rattle.aggregate.specs.inner.Acts.{earlyRefusal}
+use Rattle.aggregate.specs.Serving.{refused, refusal, servedOf, logOf}
 use Rattle.aggregate.proofs.Judging.{Ready, refused-before, by-room}
 
 -- an unsound session is refused with 6

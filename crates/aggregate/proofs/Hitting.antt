@@ -15,8 +15,8 @@ use Rattle.session.specs.Holding.{pairAt}
 use Rattle.session.specs.declared.Pairs.{Pairs}
 use Rattle.mechanism.specs.Applying.{fromOf, toOf, Cell, hit, readAt, storeAt, Links, cell, putIf, put, stepped, applied}
 use Rattle.mechanism.proofs.Cells.{cell-by}
-use Rattle.trace.specs.Traces.{messagesIn}
-use Rattle.aggregate.specs.Afters.{Counts}
+use Rattle.trace.specs.inner.Traces.{messagesIn}
+use Rattle.aggregate.specs.inner.Afters.{Counts}
 
 -- ---- a message at its pair, by the side of the entry
 

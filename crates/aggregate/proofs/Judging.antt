@@ -13,7 +13,7 @@ use Rattle.session.specs.Soundness.{limit, Sound}
 use Rattle.session.specs.declared.Session.{Session}
 use Rattle.session.proofs.Soundly.{sound-exactly}
 use Rattle.mechanism.specs.Refusals.{allFit, refusalOf}
-use Rattle.aggregate.specs.Serving.{earlyRefusal}
+use Rattle.aggregate.specs.inner.Acts.{earlyRefusal}
 
 -- a request at x is accepted, if there is room for its records
 pub record Ready (s : Session) (x : ℕ) : Type 0 where

@@ -15,7 +15,7 @@ use Rattle.session.specs.Soundness.{Sound}
 use Rattle.aggregate.specs.Running.{Running, start, inTurn, done}
 use Rattle.aggregate.specs.Promises.{Answers-kept, Run-sound}
 use Rattle.aggregate.proofs.Keeping.{sessions-sound}
-use Rattle.aggregate.proofs.Runs.{small, stored-length, along}
+use Rattle.aggregate.proofs.Runs.{stored-length, along}
 use Rattle.aggregate.proofs.Listing.{either, ran-whole, answers-whole, ran-is, answers-are}
 
 -- ---- answer places
@@ -49,7 +49,7 @@ Fine o = Typed (o .session) × Sound 2 (o .session)
 
 pub fine-next : (r : Request) (o : Running) → Sized r → Fine o → Fine (done r o)
 unfolding done
-fine-next r o sized f = sessions-sound (o .session) r (length (o .log)) (o .totals .next) (f .0) (f .1) (small r sized)
+fine-next r o sized f = sessions-sound (o .session) r (length (o .log)) (o .totals .next) (f .0) (f .1) (sized .1)
 
 pub run-sound : Run-sound
 run-sound s list answers log place typed holds = either s list answers log place

@@ -13,7 +13,7 @@ use Rattle.tree.proofs.Cases.{lt-or-le}
 use Rattle.requests.specs.Format.{Ruled}
 use Rattle.requests.specs.Lists.{combinesIn}
 use Rattle.requests.specs.Reading.{requestsOf, judgedOf}
-use Rattle.requests.proofs.Refusals.{ruled-exactly}
+use Rattle.requests.proofs.Refusals.{list-ruled-exactly}
 use Rattle.requests.proofs.Runs.{read-sized, counts-right}
 use Rattle.requests.proofs.Written.{list-reads-back}
 use Rattle.session.specs.Soundness.{sound}
@@ -36,7 +36,7 @@ module _ (s : Session) (list : List ℕ) (places : ℕ) where
   whole = go (judgedOf list .refusal) refl (leb (judgedOf list .combines) places) refl (sound 2 s) refl
     where
       ruled : (n : ℕ) → judgedOf list .refusal ≡ n → Ruled list n
-      ruled n = ruled-exactly list n .0
+      ruled n = list-ruled-exactly list n .0
 
       go : (n : ℕ) → judgedOf list .refusal ≡ n → (a : Bool) → leb (judgedOf list .combines) places ≡ a → (b : Bool) → sound 2 s ≡ b
           → Whole s list places (cond (eqb n 0) (cond a (cond b 0 6) 10) n)
@@ -47,10 +47,10 @@ module _ (s : Session) (list : List ℕ) (places : ℕ) where
 
   by-rule : (n : ℕ) → Whole s list places n → listRefusal s list places ≡ n
   unfolding listRefusal
-  by-rule n (unread m h r) = let e = ruled-exactly list m .1 r in rw (e, ne-eqb m 0 (omega arith))
-  by-rule n (few-places r h) = let e = ruled-exactly list 0 .1 r in rw (e, read e, lt-leb _ places h)
-  by-rule n (unsound r h i) = let e = ruled-exactly list 0 .1 r in rw (e, read e, le-leb _ places h, i)
-  by-rule n (starts r h i) = let e = ruled-exactly list 0 .1 r in rw (e, read e, le-leb _ places h, i)
+  by-rule n (unread m h r) = let e = list-ruled-exactly list m .1 r in rw (e, ne-eqb m 0 (omega arith))
+  by-rule n (few-places r h) = let e = list-ruled-exactly list 0 .1 r in rw (e, read e, lt-leb _ places h)
+  by-rule n (unsound r h i) = let e = list-ruled-exactly list 0 .1 r in rw (e, read e, le-leb _ places h, i)
+  by-rule n (starts r h i) = let e = list-ruled-exactly list 0 .1 r in rw (e, read e, le-leb _ places h, i)
 
 pub whole-exactly : Whole-exactly
 whole-exactly s list places n = (λ e. rw (← e) (whole s list places), by-rule s list places n)
@@ -130,7 +130,7 @@ module _ (s : Session) (list : List ℕ) (answers : List ℤ) (log : List ℕ) (
   fewer = rw (read-as .1) (omega (arith, runnable .enough, counts-right list (runnable .read) .1, combines-first k (requestsOf list)))
 
   earlier-begun : listRefusal s (earlierOf list k) (length answers) ≡ 0
-  earlier-begun = whole-exactly s (earlierOf list k) (length answers) 0 .1 (starts (ruled-exactly (earlierOf list k) 0 .0 (read-as .0)) fewer (sound-exactly 2 s .1 (runnable .holds)))
+  earlier-begun = whole-exactly s (earlierOf list k) (length answers) 0 .1 (starts (list-ruled-exactly (earlierOf list k) 0 .0 (read-as .0)) fewer (sound-exactly 2 s .1 (runnable .holds)))
 
   earlier-end : endOf s (earlierOf list k) answers log place ≡ record { refusal = 0; reached = end s list answers log place .reached }
   earlier-end =

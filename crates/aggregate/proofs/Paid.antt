@@ -15,7 +15,7 @@ use Rattle.session.specs.Holding.{pairAt, sentOf}
 use Rattle.session.specs.Soundness.{Sound, Unused}
 use Rattle.session.specs.declared.Session.{Session}
 use Rattle.mechanism.specs.Requests.{linksOf}
-use Rattle.aggregate.specs.Afters.{Counts}
+use Rattle.aggregate.specs.inner.Afters.{Counts}
 
 parent-beside : (ps : List ℕ) (i : ℕ) → parent ps i < i → adjacent ps (parent ps i) i ≡ true
 parent-beside ps i h = rw (lt-ltb (parent ps i) i h) (eq-eqb (parent ps i) (parent ps i) refl)

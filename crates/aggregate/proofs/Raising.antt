@@ -14,7 +14,7 @@ use Rattle.tree.specs.Parents.{parent}
 use Rattle.tree.specs.Sides.{below, pointsTo}
 use Rattle.tree.proofs.Cases.{order, lt-or-le}
 use Rattle.mechanism.specs.Applying.{each, upRaised, downRaised}
-use Rattle.aggregate.specs.Afters.{Climbing}
+use Rattle.aggregate.specs.inner.Afters.{Climbing}
 use Rattle.walk.proofs.Ways.{Ahead, ahead-none, on-way, off-way, ahead-on, ahead-off}
 
 -- ---- one list of numbers

@@ -8,16 +8,10 @@ use lib.Dec.{eqb}
 use lib.IntN.{ℤ}
 use lib.ListN.{length, take, length-set}
 use borrow.Author.Tests.{ne-eqb}
-use Rattle.requests.specs.Lists.{Sized, AllSized, combinesIn}
+use Rattle.requests.specs.Lists.{Small, Sized, AllSized, combinesIn}
 use Rattle.requests.specs.declared.Request.{Request}
 use Rattle.requests.specs.declared.Request.the-variants.{Combine, Write}
-use Rattle.mechanism.specs.Requests.{Small}
 use Rattle.aggregate.specs.Running.{Running, inTurn, stored, done, Ended, runs, Serves, all-done, stopped, accepted, spokenIn}
-
--- a request of a list is small
-pub small : (r : Request) → Sized r → Small r
-small (Combine x) h = tt
-small (Write x z) h = h .1
 
 -- there are as many answer places as before
 pub stored-length : (r : Request) (z : ℤ) (k : ℕ) (answers : List ℤ) → length (stored r z k answers) ≡ length answers

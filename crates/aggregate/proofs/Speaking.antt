@@ -24,7 +24,7 @@ use Rattle.mechanism.proofs.Fits.{messages-fit, sum-ranging}
 use Rattle.aggregate.specs.Running.{Running, start, inTurn, done, runs, spokenIn}
 use Rattle.aggregate.specs.Promises.{Run-logged, Run-outside-kept}
 use Rattle.aggregate.proofs.Verdicts.{accepted-by, answers, logs}
-use Rattle.aggregate.proofs.Runs.{small, along}
+use Rattle.aggregate.proofs.Runs.{along}
 use Rattle.aggregate.proofs.Wholly.{runnable-by}
 use Rattle.aggregate.proofs.Lasting.{fine-next}
 use Rattle.aggregate.proofs.Listing.{either, ran-whole, log-whole, ran-is, log-is}
@@ -86,7 +86,7 @@ fitting (r ∷ rs) o sized typed holds =
     go : records.AllSized (spokenIn rs (done r o)) → (n : ℕ) → inTurn r o .outcome .refusal ≡ n → records.AllSized (spokenIn (r ∷ rs) o)
     go rest zero e =
         let a = accepted-by (o .session) r (length (o .log)) (o .totals .next) e in
-        rw e (sized-append (says sum (o .session) r .log) (spokenIn rs (done r o)) (messages-fit sum 2 sum-ranging (o .session) typed holds r (small r (sized .0)) (a .inside)) rest)
+        rw e (sized-append (says sum (o .session) r .log) (spokenIn rs (done r o)) (messages-fit sum 2 sum-ranging (o .session) typed holds r (sized .0 .1) (a .inside)) rest)
     go rest (suc n) e = rw (e, ne-eqb (suc n) 0 (omega arith)) tt
 
 -- ---- the room

@@ -9,7 +9,7 @@ use lib.ListN.{length}
 use Rattle.tree.specs.Operation.{sum}
 use Rattle.requests.specs.Format.{no-count, bad-count, no-request, left-over}
 use Rattle.requests.specs.Format as format
-use Rattle.requests.specs.Lists.{AllSized}
+use Rattle.requests.specs.Lists.{nodeOf, Small, AllSized}
 use Rattle.requests.specs.Reading.{requestsOf}
 use Rattle.requests.specs.declared.Request.{Request}
 use Rattle.requests.proofs.Runs.{read-sized}
@@ -17,14 +17,13 @@ use Rattle.session.specs.Holding.{Typed}
 use Rattle.session.specs.Soundness.{Sound}
 use Rattle.session.specs.declared.Session.{Session}
 use Rattle.session.proofs.Soundly.{sound-exactly}
-use Rattle.mechanism.specs.Requests.{nodeOf, Small, says}
+use Rattle.mechanism.specs.Requests.{says}
 use Rattle.mechanism.specs.Refusals.{Ruled, no-node, no-more, no-room, misfit}
 use Rattle.mechanism.specs.Refusals as refusals
 use Rattle.aggregate.specs.Serving.{servedOf}
 use Rattle.aggregate.specs.Running.{Running, start, done, Whole, unread, few-places, unsound, starts, Serves, all-done, stopped, accepted, OfWhole, OfStop}
 use Rattle.aggregate.specs.Promises.{Whole-numbers, Stop-numbers}
 use Rattle.aggregate.proofs.Verdicts.{refused-exactly, never-eleven}
-use Rattle.aggregate.proofs.Runs.{small}
 use Rattle.aggregate.proofs.Wholly.{runnable-by}
 use Rattle.aggregate.proofs.Listing.{whole-exactly, one-by-one}
 use Rattle.aggregate.proofs.Lasting.{fine-next}
@@ -60,7 +59,7 @@ refused-with s r len place n typed holds h e some = go n (refused-exactly s r le
 -- the session that has come to the request that is refused is sound
 stopped-with : (n : ℕ) (o′ : Running) (rs : List Request) (o : Running) → AllSized rs → Typed (o .session) → Sound 2 (o .session) → 0 < n → Serves n o′ rs o → OfStop n
 stopped-with n o′ rs o sized typed holds some (all-done e) = absurd (omega (arith, some, e))
-stopped-with n o′ rs o sized typed holds some (stopped r l h e) = refused-with (o .session) r (length (o .log)) (o .totals .next) n typed holds (small r (sized .0)) e some
+stopped-with n o′ rs o sized typed holds some (stopped r l h e) = refused-with (o .session) r (length (o .log)) (o .totals .next) n typed holds (sized .0 .1) e some
 stopped-with n o′ rs o sized typed holds some (accepted r l q e rest) =
     let f = fine-next r o (sized .0) (typed, holds) in stopped-with n o′ l (done r o) (sized .1) (f .0) (f .1) some rest
 

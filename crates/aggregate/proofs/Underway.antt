@@ -21,18 +21,18 @@ use Rattle.session.specs.Soundness.{Sound}
 use Rattle.session.specs.declared.Session.{Session}
 use Rattle.aggregate.specs.Serving.{logOf}
 use Rattle.aggregate.specs.Running.{Running, running, start, inTurn, stored, added, done, runs, listRefusal, endOf}
-use Rattle.aggregate.specs.Turns.{Starting, Placed, Addable}
+use Rattle.aggregate.specs.inner.Turns.{Starting, HasPlace, Addable}
 use Rattle.aggregate.specs.declared.Served.{Served}
 use Rattle.aggregate.specs.declared.Totals.{Totals}
 use Rattle.aggregate.proofs.Verdicts.{refuses, logs-nothing}
-use Rattle.aggregate.proofs.Logging.{length-kept, at-most-510}
+use Rattle.aggregate.proofs.Logging.{request-length-kept, at-most-510}
 use Rattle.aggregate.proofs.Keeping.{sessions-sound}
-use Rattle.aggregate.proofs.Runs.{small, stored-length}
+use Rattle.aggregate.proofs.Runs.{stored-length}
 use Rattle.aggregate.proofs.Wholly.{runnable-by}
 
 -- ---- what a list and a request of it bring
 
-placed : (r : Request) (k places : ℕ) → k + oneIfCombine r ≤ places → Placed r k places
+placed : (r : Request) (k places : ℕ) → k + oneIfCombine r ≤ places → HasPlace r k places
 placed (Combine x) k places h = omega arith
 placed (Write x z) k places h = tt
 
@@ -84,7 +84,7 @@ module _ {s : Session} {list : List ℕ} {answers : List ℤ} {log : List ℕ} {
       go (r ∷ rs) l same = absurd (omega (arith, h))
 
   pub log-kept : (r : Request) {log' : List ℕ} → log' ≡ logOf (o .session) r (o .log) (o .totals .next) → length log' ≡ length log
-  log-kept r logged = ap length logged ∙ length-kept (o .session) r (o .log) (o .totals .next) ∙ u .log-long
+  log-kept r logged = ap length logged ∙ request-length-kept (o .session) r (o .log) (o .totals .next) ∙ u .log-long
 
   -- ---- the next request
 
@@ -134,7 +134,7 @@ module _ {s : Session} {list : List ℕ} {answers : List ℤ} {log : List ℕ} {
       places-now : o .totals .answers + (oneIfCombine r + combinesIn rest) ≤ length (o .answers)
       places-now = unfold combinesIn in (rw (it-is .0) at (u .places))
 
-      pub placed-now : Placed r (o .totals .answers) (length (o .answers))
+      pub placed-now : HasPlace r (o .totals .answers) (length (o .answers))
       placed-now = placed r (o .totals .answers) (length (o .answers)) (omega (arith, places-now))
 
       goes-on : inTurn r o .outcome .refusal ≡ 0 → runs rest (done r o) ≡ runs (r ∷ rest) o
@@ -148,7 +148,7 @@ module _ {s : Session} {list : List ℕ} {answers : List ℤ} {log : List ℕ} {
       underway-done : inTurn r o .outcome .refusal ≡ 0 → Underway s list answers log place count next (done r o)
       unfolding done
       underway-done e =
-          let kept = sessions-sound (o .session) r (length (o .log)) (o .totals .next) (u .typed) (u .holds) (small r (sized-now .0)) in
+          let kept = sessions-sound (o .session) r (length (o .log)) (o .totals .next) (u .typed) (u .holds) (sized-now .0 .1) in
           record {
             accepted = u .accepted;
             due = rest;
@@ -163,7 +163,7 @@ module _ {s : Session} {list : List ℕ} {answers : List ℤ} {log : List ℕ} {
             answers-few = omega (arith, u .answers-few, one-at-most r);
             messages-few = omega (arith, u .messages-few, at-most-510 (o .session) r (length (o .log)) (o .totals .next) .0);
             answers-long = stored-length r (inTurn r o .outcome .answer) (o .totals .answers) (o .answers) ∙ u .answers-long;
-            log-long = length-kept (o .session) r (o .log) (o .totals .next) ∙ u .log-long;
+            log-long = request-length-kept (o .session) r (o .log) (o .totals .next) ∙ u .log-long;
           }
 
       -- what it answered, and the log it left

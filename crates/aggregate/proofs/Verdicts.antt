@@ -15,10 +15,11 @@ use Rattle.requests.specs.declared.Request.{Request}
 use Rattle.session.specs.Soundness.{limit, Sound}
 use Rattle.session.specs.declared.Session.{Session}
 use Rattle.session.proofs.Soundly.{sound-exactly}
-use Rattle.mechanism.specs.Requests.{nodeOf, says, after}
+use Rattle.requests.specs.Lists.{nodeOf}
+use Rattle.mechanism.specs.Requests.{says, after}
 use Rattle.mechanism.specs.Refusals.{Ruled, no-room, misfit}
 use Rattle.mechanism.specs.Refusals as refusals
-use Rattle.mechanism.proofs.Refusing.{ruled-exactly}
+use Rattle.mechanism.proofs.Refusing.{request-ruled-exactly}
 use Rattle.mechanism.proofs.Few.{few-messages}
 use Rattle.mechanism.proofs.Fits.{messages-fit, never-misfit, sum-ranging}
 use Rattle.aggregate.specs.Serving.{refused, accepted, served, refusal, servedOf, logOf}
@@ -33,7 +34,7 @@ pub record Accepted (s : Session) (r : Request) (len place : ℕ) : Type 0 where
 
 module _ (s : Session) (r : Request) (len place : ℕ) where
   ruling : (n : ℕ) → refusal s r len place ≡ n → Ruled 2 s (nodeOf r) len place (says sum s r .log) n
-  ruling n = ruled-exactly 2 s (nodeOf r) len place (says sum s r .log) n .0
+  ruling n = request-ruled-exactly 2 s (nodeOf r) len place (says sum s r .log) n .0
 
   pub number-is : servedOf s r len place .outcome .refusal ≡ refusal s r len place
   unfolding servedOf
@@ -77,7 +78,7 @@ verdict s r len place taken left = lt-or-le 0 (servedOf s r len place .outcome .
 
 pub refused-exactly : Refused-exactly
 refused-exactly s r len place n =
-    let j = ruled-exactly 2 s (nodeOf r) len place (says sum s r .log) n in
+    let j = request-ruled-exactly 2 s (nodeOf r) len place (says sum s r .log) n in
     (λ e. j .0 (sym (number-is s r len place) ∙ e), λ e. number-is s r len place ∙ j .1 e)
 
 pub refused-kept : Refused-kept

@@ -11,12 +11,12 @@ use lib.ListN.{length}
 use borrow.Author.Tests.{eq-eqb, ne-eqb, le-leb, lt-leb, leb-true}
 use Rattle.requests.specs.Reading.{judgedOf}
 use Rattle.requests.specs.declared.Judged.{Judged}
-use Rattle.requests.proofs.Refusals.{accepted, ruled-exactly, judged-whole}
+use Rattle.requests.proofs.Refusals.{accepted, list-ruled-exactly, judged-whole}
 use Rattle.session.specs.Soundness.{sound, Sound}
 use Rattle.session.specs.declared.Session.{Session}
 use Rattle.session.proofs.Soundly.{sound-exactly}
 use Rattle.aggregate.specs.Running.{Running, listRefusal, endedAs, refused, endOf, ranOf, answersOf, runLogOf}
-use Rattle.aggregate.specs.Turns.{Starting}
+use Rattle.aggregate.specs.inner.Turns.{Starting}
 use Rattle.aggregate.specs.declared.Ran.{Ran}
 
 -- the chain of tests
@@ -41,7 +41,7 @@ pub runnable-by : (s : Session) (list : List ℕ) (places : ℕ) → listRefusal
 unfolding listRefusal chain
 runnable-by s list places e =
     let t = all-passed (judgedOf list .refusal) (leb (judgedOf list .combines) places) (sound 2 s) e in
-    let h = ruled-exactly list 0 .0 (t .0) in
+    let h = list-ruled-exactly list 0 .0 (t .0) in
     record { read = t .0; few = rw (judged-whole list h) (accepted list h .0 .few); enough = leb-true (judgedOf list .combines) places (t .1); holds = sound-exactly 2 s .0 (t .2) }
 
 module _ (s : Session) (list : List ℕ) (answers : List ℤ) (log : List ℕ) (place : ℕ) where

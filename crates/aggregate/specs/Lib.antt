@@ -1,7 +1,5 @@
 -- What a reader must believe of the functions that serve a session: what each answers and leaves, and the promises; and what their private parts hand each other.
 pub mod Serving
 pub mod Running
-pub mod Afters
-pub mod Acts
-pub mod Turns
+pub mod inner
 pub mod Promises

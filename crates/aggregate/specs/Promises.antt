@@ -9,13 +9,13 @@ use Rattle.fields.specs.Bits.{bit}
 use Rattle.fields.specs.Usable.{usableBits}
 use Rattle.tree.specs.Operation.{sum}
 use Rattle.messages.specs.Reading.{Reads, messagesFrom}
-use Rattle.requests.specs.Lists.{combinesIn}
+use Rattle.requests.specs.Lists.{nodeOf, Small, combinesIn}
 use Rattle.requests.specs.Reading.{requestsOf, judgedOf}
 use Rattle.requests.specs.declared.Request.{Request}
 use Rattle.session.specs.Holding.{Typed}
 use Rattle.session.specs.Soundness.{Sound}
 use Rattle.session.specs.declared.Session.{Session}
-use Rattle.mechanism.specs.Requests.{nodeOf, Small, says}
+use Rattle.mechanism.specs.Requests.{says}
 use Rattle.mechanism.specs.Refusals.{Ruled}
 use Rattle.aggregate.specs.Serving.{refused, servedOf, logOf}
 use Rattle.aggregate.specs.Running.{running, start, endedAs, listRefusal, ranOf, answersOf, runLogOf, earlierOf, Whole, Serves, OfWhole, OfStop, spokenOf}
@@ -46,11 +46,11 @@ Logged-exactly = (s : Session) (r : Request) (log : List ℕ) (place : ℕ) → 
     × (servedOf s r (length log) place .outcome .messages ≡ length (messagesFrom (servedOf s r (length log) place .outcome .next) (logOf s r log place) place (servedOf s r (length log) place .outcome .next)))
 
 -- the bits before its place and after the last record keep their values, and the log its length;
-abbrev pub Outside-kept : Type 0
-Outside-kept = (s : Session) (r : Request) (log : List ℕ) (place k : ℕ) → (k < place) ⊎ (servedOf s r (length log) place .outcome .next ≤ k) → bit (logOf s r log place) k ≡ bit log k
+abbrev pub Request-outside-kept : Type 0
+Request-outside-kept = (s : Session) (r : Request) (log : List ℕ) (place k : ℕ) → (k < place) ⊎ (servedOf s r (length log) place .outcome .next ≤ k) → bit (logOf s r log place) k ≡ bit log k
 
-abbrev pub Length-kept : Type 0
-Length-kept = (s : Session) (r : Request) (log : List ℕ) (place : ℕ) → length (logOf s r log place) ≡ length log
+abbrev pub Request-length-kept : Type 0
+Request-length-kept = (s : Session) (r : Request) (log : List ℕ) (place : ℕ) → length (logOf s r log place) ≡ length log
 
 -- at most 510 messages of 19,380 bits are logged.
 abbrev pub At-most-510 : Type 0

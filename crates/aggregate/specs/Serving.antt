@@ -2,16 +2,16 @@
 use mathlib.Core.Bool.{cond}
 use mathlib.Core.List.{List}
 use Prim.Native.Nat.{ℕ, zero, suc, _+_}
-use lib.Dec.{eqb, ltb}
+use lib.Dec.{eqb}
 use lib.IntN.{ℤ, pos}
 use lib.ListN.{length}
 use Rattle.tree.specs.Operation.{sum}
 use Rattle.messages.specs.Writing.{logged, bitsOfAll}
 use Rattle.messages.specs.declared.Message.{Message}
 use Rattle.requests.specs.declared.Request.{Request}
-use Rattle.session.specs.Soundness.{limit}
 use Rattle.session.specs.declared.Session.{Session}
-use Rattle.mechanism.specs.Requests.{nodeOf, says, after}
+use Rattle.requests.specs.Lists.{nodeOf}
+use Rattle.mechanism.specs.Requests.{says, after}
 use Rattle.mechanism.specs.Refusals.{refusalOf}
 use Rattle.aggregate.specs.declared.Outcome.{Outcome}
 use Rattle.aggregate.specs.declared.Served.{Served}
@@ -42,7 +42,3 @@ servedOf s r len place = served (refusal s r len place) (accepted (says sum s r 
 -- the records of the messages from place on; as it was where the request is refused
 unfoldable pub logOf : Session → Request → List ℕ → ℕ → List ℕ
 logOf s r log place = cond (eqb (refusal s r (length log) place) 0) (logged log place (says sum s r .log)) log
-
--- the refusal of a request to a sound session before its walk: 7, then 8
-unfoldable pub earlyRefusal : ℕ → ℕ → ℕ → ℕ
-earlyRefusal count accepted x = cond (ltb x count) (cond (ltb accepted limit) 0 8) 7

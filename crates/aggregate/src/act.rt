@@ -7,11 +7,11 @@ use crate::spread;
 ghost use mathlib.Core.Path.{_≡_};
 ghost use Prim.Native.Nat.{_<_};
 ghost use lib.ListN.{length};
-ghost use Rattle.mechanism.specs.Requests.{nodeOf, Small};
+ghost use Rattle.requests.specs.Lists.{nodeOf, Small};
 ghost use Rattle.mechanism.specs.Views.{viewOf};
-ghost use Rattle.trace.specs.Traces as traces;
-ghost use Rattle.aggregate.specs.Afters.{Climbing};
-ghost use Rattle.aggregate.specs.Acts as spec;
+ghost use Rattle.trace.specs.inner.Traces as traces;
+ghost use Rattle.aggregate.specs.inner.Afters.{Climbing};
+ghost use Rattle.aggregate.specs.inner.Acts as spec;
 use requests::Request;
 
 pub enum Act {
@@ -30,7 +30,7 @@ pub fn node_of(request: Request) -> usize
 }
 
 pub fn act_of(request: Request) -> Act
-    ensures { λ r. ⌜ spec.requestAt (nodeOf request) r ≡ request ⌝ }
+    ensures { λ r. ⌜ spec.requestOf (nodeOf request) r ≡ request ⌝ }
 {
     match request {
         Request::Combine(_) => Act::Combine,
@@ -41,7 +41,7 @@ pub fn act_of(request: Request) -> Act
 // A write sets its value before its walk.
 pub fn begin(act: Act, x: usize, values: &mut [i32; 256])
     requires { ⌜ (x < 256) × (length (now values) ≡ 256) ⌝ }
-    ensures { λ _. ⌜ (now (values .exit) ≡ spec.begun act x (now (values .entry))) × Small (spec.requestAt x act) ⌝ }
+    ensures { λ _. ⌜ (now (values .exit) ≡ spec.begun act x (now (values .entry))) × Small (spec.requestOf x act) ⌝ }
 {
     match act {
         Act::Combine => {}

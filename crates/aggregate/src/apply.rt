@@ -4,8 +4,8 @@ use crate::reads;
 ghost use mathlib.Core.Path.{_≡_};
 ghost use Prim.Native.Nat.{_<_, _≤_};
 ghost use Rattle.mechanism.specs.Applying as spec;
-ghost use Rattle.trace.specs.Traces.{messagesOf};
-ghost use Rattle.aggregate.specs.Afters.{pairsOf, linksBy, Counts};
+ghost use Rattle.trace.specs.inner.Traces.{messagesOf};
+ghost use Rattle.aggregate.specs.inner.Afters.{pairsOf, linksBy, Counts};
 use messages::Message;
 use rule::Rule;
 

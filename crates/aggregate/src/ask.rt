@@ -2,8 +2,8 @@
 use crate::links;
 use crate::reads;
 ghost use Rattle.mechanism.specs.Views.{viewOf};
-ghost use Rattle.trace.specs.Traces as traces;
-ghost use Rattle.walk.specs.Asking.{Asking, Visiting, Told, Visited};
+ghost use Rattle.trace.specs.inner.Traces as traces;
+ghost use Rattle.walk.specs.inner.Asking.{Asking, Visiting, Replied, Visited};
 use messages::Message;
 
 // A walk's sum, and the length of the trace after it.
@@ -32,7 +32,7 @@ pub fn ask<'a>(
 ) -> Asked
     requires { ⌜ Asking (viewOf count (now parents) (now values) (now «up_lease») (now «up_cache») (now «down_lease») (now «down_cache»)) (now first) (now next) u from ⌝ }
     ensures { λ r.
-        ⌜ Told (viewOf count (now (parents .entry)) (now (values .entry)) (now («up_lease» .entry)) (now («up_cache» .entry)) (now («down_lease» .entry)) (now («down_cache» .entry))) left u from
+        ⌜ Replied (viewOf count (now (parents .entry)) (now (values .entry)) (now («up_lease» .entry)) (now («up_cache» .entry)) (now («down_lease» .entry)) (now («down_cache» .entry))) left u from
         (traces.trace (now (trace .entry)) len) (r .sum)
         (traces.trace (now (trace .exit)) (r .len)) ⌝ }
 {

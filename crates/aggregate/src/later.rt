@@ -4,7 +4,7 @@ ghost use mathlib.Core.Path.{_≡_};
 ghost use Prim.Native.Nat.{_≤_};
 ghost use lib.ListN.{length};
 ghost use Rattle.mechanism.specs.Views.{viewOf};
-ghost use Rattle.walk.specs.Laters.{Passing, Passed, Cleared};
+ghost use Rattle.walk.specs.inner.Laters.{Passing, Passed, Cleared};
 
 // Lays by for each pair (u,w) what u knows of its neighbours after w, the one towards x left out: at the
 // place of the child, from child to parent in `up` and from parent to child in `down`. A node has all
@@ -63,7 +63,7 @@ fn full(sums: &[i64; 256])
 
 // What is known where there is a lease, and nothing where there is none.
 pub fn known(lease: u8, cache: i64) -> i64
-    ensures { λ r. ⌜ r ≡ Rattle.walk.specs.Laters.knownBy lease cache ⌝ }
+    ensures { λ r. ⌜ r ≡ Rattle.walk.specs.inner.Laters.knownBy lease cache ⌝ }
 {
     if lease == 0 {
         return 0;

@@ -4,7 +4,7 @@ ghost use mathlib.Core.Path.{_≡_};
 ghost use Prim.Native.Nat.{_+_, _<_, _≤_};
 ghost use Rattle.tree.specs.Parents.{Grown};
 ghost use Rattle.tree.specs.Turns as turns;
-ghost use Rattle.walk.specs.Links.{Found, Linked, neighbourAt, Placed};
+ghost use Rattle.walk.specs.inner.Links.{Found, Linked, neighbourAt, Placed};
 
 // Each node's first child, and the next child of its parent; the tree's count for none.
 #[repr(C)]

@@ -1,7 +1,7 @@
 // A session made of its parts.
 ghost use mathlib.Core.Path.{_≡_};
 ghost use Rattle.session.specs.Parts.{sessionBy};
-ghost use Rattle.aggregate.specs.Afters.{pairsOf};
+ghost use Rattle.aggregate.specs.inner.Afters.{pairsOf};
 use session::Pairs;
 use session::Session;
 use tree::Tree;

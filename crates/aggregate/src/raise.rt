@@ -2,7 +2,7 @@
 use crate::reads;
 ghost use mathlib.Core.Path.{_≡_};
 ghost use Rattle.mechanism.specs.Applying.{upRaised, downRaised};
-ghost use Rattle.aggregate.specs.Afters.{Climbing};
+ghost use Rattle.aggregate.specs.inner.Afters.{Climbing};
 use rule::Rule;
 
 // Every pair that points to x gets the number that a combine gives it. `at` is the next node on the way from x to the

@@ -12,13 +12,13 @@ ghost use lib.ListN.{length};
 ghost use Rattle.session.specs.Holding.{Typed};
 ghost use Rattle.session.specs.Parts.{sessionBy};
 ghost use Rattle.aggregate.specs.Serving.{servedOf, logOf};
-ghost use Rattle.aggregate.specs.Acts.{requestAt, servedAs, Servable};
+ghost use Rattle.aggregate.specs.inner.Acts.{requestOf, servedAs, Servable};
 use session::Session;
 use trace::Logged;
 
 // A request to any session: taken apart once, and put together once, whatever comes of it.
 pub fn whole(session: Session, x: usize, act: Act, log: &mut [u8], place: usize) -> Served
-    ensures { λ r. ⌜ (r ≡ servedOf session (requestAt x act) (length (now (log .entry))) place) × (now (log .exit) ≡ logOf session (requestAt x act) (now (log .entry)) place) ⌝ }
+    ensures { λ r. ⌜ (r ≡ servedOf session (requestOf x act) (length (now (log .entry))) place) × (now (log .exit) ≡ logOf session (requestOf x act) (now (log .entry)) place) ⌝ }
 {
     let tree = session.tree;
     let count = tree.count;
@@ -86,9 +86,9 @@ fn tested(
     requires { ⌜ Typed (sessionBy count (now parents) (now values) (now «up_lease») (now «up_cache») (now «up_messages») (now «down_lease») (now «down_cache») (now «down_messages») (now accepted)) ⌝ }
     ensures { λ r.
         ⌜ (servedAs r (sessionBy count (now (parents .exit)) (now (values .exit)) (now («up_lease» .exit)) (now («up_cache» .exit)) (now («up_messages» .exit)) (now («down_lease» .exit)) (now («down_cache» .exit)) (now («down_messages» .exit)) (now (accepted .exit)))
-        ≡ servedOf (sessionBy count (now (parents .entry)) (now (values .entry)) (now («up_lease» .entry)) (now («up_cache» .entry)) (now («up_messages» .entry)) (now («down_lease» .entry)) (now («down_cache» .entry)) (now («down_messages» .entry)) (now (accepted .entry))) (requestAt x act) (length (now (log .entry))) place)
+        ≡ servedOf (sessionBy count (now (parents .entry)) (now (values .entry)) (now («up_lease» .entry)) (now («up_cache» .entry)) (now («up_messages» .entry)) (now («down_lease» .entry)) (now («down_cache» .entry)) (now («down_messages» .entry)) (now (accepted .entry))) (requestOf x act) (length (now (log .entry))) place)
         × (now (log .exit)
-        ≡ logOf (sessionBy count (now (parents .entry)) (now (values .entry)) (now («up_lease» .entry)) (now («up_cache» .entry)) (now («up_messages» .entry)) (now («down_lease» .entry)) (now («down_cache» .entry)) (now («down_messages» .entry)) (now (accepted .entry))) (requestAt x act) (now (log .entry)) place) ⌝ }
+        ≡ logOf (sessionBy count (now (parents .entry)) (now (values .entry)) (now («up_lease» .entry)) (now («up_cache» .entry)) (now («up_messages» .entry)) (now («down_lease» .entry)) (now («down_cache» .entry)) (now («down_messages» .entry)) (now (accepted .entry))) (requestOf x act) (now (log .entry)) place) ⌝ }
 {
     let sound = session::parts_are_sound(
         count,
@@ -158,9 +158,9 @@ pub fn request<'a>(
     requires { ⌜ Servable (sessionBy count (now parents) (now values) (now «up_lease») (now «up_cache») (now «up_messages») (now «down_lease») (now «down_cache») (now «down_messages») (now accepted)) (now first) (now next) ⌝ }
     ensures { λ r.
         ⌜ (servedAs r (sessionBy count (now (parents .exit)) (now (values .exit)) (now («up_lease» .exit)) (now («up_cache» .exit)) (now («up_messages» .exit)) (now («down_lease» .exit)) (now («down_cache» .exit)) (now («down_messages» .exit)) (now (accepted .exit)))
-        ≡ servedOf (sessionBy count (now (parents .entry)) (now (values .entry)) (now («up_lease» .entry)) (now («up_cache» .entry)) (now («up_messages» .entry)) (now («down_lease» .entry)) (now («down_cache» .entry)) (now («down_messages» .entry)) (now (accepted .entry))) (requestAt x act) (length (now (log .entry))) place)
+        ≡ servedOf (sessionBy count (now (parents .entry)) (now (values .entry)) (now («up_lease» .entry)) (now («up_cache» .entry)) (now («up_messages» .entry)) (now («down_lease» .entry)) (now («down_cache» .entry)) (now («down_messages» .entry)) (now (accepted .entry))) (requestOf x act) (length (now (log .entry))) place)
         × (now (log .exit)
-        ≡ logOf (sessionBy count (now (parents .entry)) (now (values .entry)) (now («up_lease» .entry)) (now («up_cache» .entry)) (now («up_messages» .entry)) (now («down_lease» .entry)) (now («down_cache» .entry)) (now («down_messages» .entry)) (now (accepted .entry))) (requestAt x act) (now (log .entry)) place) ⌝ }
+        ≡ logOf (sessionBy count (now (parents .entry)) (now (values .entry)) (now («up_lease» .entry)) (now («up_cache» .entry)) (now («up_messages» .entry)) (now («down_lease» .entry)) (now («down_cache» .entry)) (now («down_messages» .entry)) (now (accepted .entry))) (requestOf x act) (now (log .entry)) place) ⌝ }
 {
     let refusal = judge::early_refusal(count, *accepted, x);
     if refusal != 0 {

@@ -10,10 +10,10 @@ ghost use Rattle.tree.specs.Operation as operation;
 ghost use Rattle.session.specs.Holding.{pairAt};
 ghost use Rattle.mechanism.specs.Views.{viewOf};
 ghost use Rattle.mechanism.specs.Spreading.{write};
-ghost use Rattle.trace.specs.Traces as traces;
-ghost use Rattle.walk.specs.Links.{Linked};
-ghost use Rattle.walk.specs.Telling.{SilentUpTo, Spreading, Telling, Spread, Told};
-ghost use Rattle.aggregate.specs.Acts.{Walkable};
+ghost use Rattle.trace.specs.inner.Traces as traces;
+ghost use Rattle.walk.specs.inner.Links.{Linked};
+ghost use Rattle.walk.specs.inner.Telling.{SilentUpTo, Spreading, Telling, Spread, Told};
+ghost use Rattle.aggregate.specs.inner.Acts.{Walkable};
 use messages::Message;
 
 // The walk of a write at x, whose value is set, from an empty trace.

@@ -11,8 +11,8 @@ ghost use lib.ListN.{length};
 ghost use Rattle.requests.specs.Lists.{oneIfCombine};
 ghost use Rattle.session.specs.Parts.{sessionBy};
 ghost use Rattle.aggregate.specs.Running as spec;
-ghost use Rattle.aggregate.specs.Acts.{Servable};
-ghost use Rattle.aggregate.specs.Turns.{Starting, Placed, Addable, endedBy};
+ghost use Rattle.aggregate.specs.inner.Acts.{Servable};
+ghost use Rattle.aggregate.specs.inner.Turns.{Starting, HasPlace, Addable, endedBy};
 use requests::Item;
 use requests::Request;
 use session::Session;
@@ -169,7 +169,7 @@ fn each<'a>(
 
 // Stores a combine's answer at its place. How many answers that are.
 fn store(answers: &mut [i64], k: usize, request: Request, answer: i64) -> usize
-    requires { ⌜ Placed request k (length (now answers)) ⌝ }
+    requires { ⌜ HasPlace request k (length (now answers)) ⌝ }
     ensures { λ r. ⌜ (r ≡ oneIfCombine request) × (now (answers .exit) ≡ spec.stored request answer k (now (answers .entry))) ⌝ }
 {
     match request {

@@ -2,7 +2,7 @@
 use crate::show;
 use messages::Entry;
 use messages::Message;
-use messages::Written;
+use messages::Recorded;
 use twos::Decoded;
 
 // A message is written to the log, and read back. Its kind, sender and receiver are b in 2, 8 and 8
@@ -37,11 +37,11 @@ fn message(kind: u64, from: u8, to: u8, value: i64) -> Message {
 }
 
 // Prints the place after the record, or the number of a refusal, and answers that place.
-fn written(w: Written) -> usize {
+fn written(w: Recorded) -> usize {
     match w {
-        Written::Next(place) => next(place),
-        Written::Full => none(9),
-        Written::Misfit => none(11),
+        Recorded::Next(place) => next(place),
+        Recorded::Full => none(9),
+        Recorded::Misfit => none(11),
     }
 }
 

@@ -12,7 +12,7 @@ use borrow.Author.Tests.{le-leb, lt-leb, lt-ltb, leb-true, ltb-true}
 use lib.ListN.{length}
 use Rattle.fields.specs.Fields.{field, putField}
 use Rattle.fields.specs.Usable.{usableBits, lies, takes, fieldAt, putAt, told}
-use Rattle.fields.specs.Promises.{Found-exactly, Refused-exactly, Taken-exactly, Taken-is-read, Refused-is-kept}
+use Rattle.fields.specs.Promises.{Found-exactly, Not-found-exactly, Taken-exactly, Taken-is-read, Refused-is-kept}
 use Rattle.fields.specs.declared.Field.the-variants.{Value, Short}
 use Rattle.fields.proofs.Kept.{length-kept}
 use Rattle.fields.proofs.ReadBack.{read-back}
@@ -67,9 +67,9 @@ found-exactly s place w v = (
     go true p e = let h = lying (length s) place w p in (h .0, h .1, sym (ap (λ (t : ℕ × ℕ). t .1) e))
     go false p e = absurd (suc-ne-zero 0 (ap (λ (t : ℕ × ℕ). t .0) e))
 
-pub refused-exactly : Refused-exactly
+pub not-found-exactly : Not-found-exactly
 unfolding fieldAt
-refused-exactly s place w = (
+not-found-exactly s place w = (
   λ e. go (lies (length s) place w) refl e,
   ⊎-elim (λ h. rw (too-wide (length s) place w h)) (λ h. rw (past-end (length s) place w h)),
 )
@@ -83,7 +83,7 @@ pub found : (s : List ℕ) (place w v : ℕ) → fieldAt s place w ≡ Value v �
 found s place w v e = found-exactly s place w v .0 (ap told e)
 
 pub cut-off : (s : List ℕ) (place w : ℕ) → w ≤ 64 → fieldAt s place w ≡ Short → usableBits (length s) < place + w
-cut-off s place w h e = ⊎-elim (λ (l : 64 < w). absurd (omega arith)) (λ l. l) (refused-exactly s place w .0 (ap told e))
+cut-off s place w h e = ⊎-elim (λ (l : 64 < w). absurd (omega arith)) (λ l. l) (not-found-exactly s place w .0 (ap told e))
 
 -- ---- writing
 

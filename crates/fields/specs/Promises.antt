@@ -57,8 +57,8 @@ abbrev pub Found-exactly : Type 0
 Found-exactly = (s : List ℕ) (place w v : ℕ) → (told (fieldAt s place w) ≡ (0, v)) ↔ ((w ≤ 64) × (place + w ≤ usableBits (length s)) × (v ≡ field s place w))
 
 -- and is refused, with 1 and a zero, exactly everywhere else.
-abbrev pub Refused-exactly : Type 0
-Refused-exactly = (s : List ℕ) (place w : ℕ) → (told (fieldAt s place w) ≡ (1, 0)) ↔ ((64 < w) ⊎ (usableBits (length s) < place + w))
+abbrev pub Not-found-exactly : Type 0
+Not-found-exactly = (s : List ℕ) (place w : ℕ) → (told (fieldAt s place w) ≡ (1, 0)) ↔ ((64 < w) ⊎ (usableBits (length s) < place + w))
 
 -- Writing takes a number exactly where the field is at most 64 bits wide, lies in the usable bytes and has room for it.
 abbrev pub Taken-exactly : Type 0

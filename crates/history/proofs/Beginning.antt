@@ -8,7 +8,7 @@ use Rattle.tree.specs.Parents.{InRule}
 use Rattle.tree.specs.declared.Tree.{Tree}
 use Rattle.table.specs.Layout.{countAt}
 use Rattle.table.specs.Reading.{treeOf}
-use Rattle.table.proofs.Verdicts.{ruled-exactly, reading-accepted}
+use Rattle.table.proofs.Verdicts.{table-ruled-exactly, reading-accepted}
 use Rattle.table.proofs.Tables.{parents-length}
 use Rattle.session.specs.Holding.{valueOf, leaseOf, sentOf}
 use Rattle.session.specs.Starting.{freshOf}
@@ -29,7 +29,7 @@ record Begun (o : Session) : Type 0 where
 
 begun : (o : Session) → Fresh o → Begun o
 begun o (loaded s bytes e) =
-    let l = load-accepts s bytes (treeOf bytes) (reading-accepted bytes (ruled-exactly bytes 0 .0 (read-well s bytes e))) in
+    let l = load-accepts s bytes (treeOf bytes) (reading-accepted bytes (table-ruled-exactly bytes 0 .0 (read-well s bytes e))) in
     record { tree = treeOf bytes; long = parents-length bytes (countAt bytes - 1); rule = l .1; is = ap (λ (d : Started). d .session) (l .0) }
 begun o (history.started t long e) =
     let r = fresh-exactly t .0 e in

@@ -7,7 +7,7 @@ use native.Mathlib.Omega.{arith}
 use lib.IntN.{ℤ}
 use borrow.Author.Tests.{ne-eqb}
 use Rattle.tree.specs.Operation.{Op}
-use Rattle.tree.specs.Tours.{when, kept}
+use Rattle.tree.specs.Kept.{when, kept}
 use Rattle.rule.specs.Pair.{combine, write, belongs, next}
 use Rattle.rule.specs.Pair as pair
 use Rattle.messages.specs.Records.{kindOf as recordKind, widthOf}

@@ -4,7 +4,7 @@ use Prim.Native.Nat.{ℕ, _+_}
 use native.Mathlib.Omega.{arith}
 use lib.ListN.{length}
 use Rattle.tree.specs.Operation.{sum}
-use Rattle.tree.specs.Tours.{kept}
+use Rattle.tree.specs.Kept.{kept}
 use Rattle.rule.specs.Pair.{numberAfter, messages}
 use Rattle.rule.proofs.Bound.{bound, five-halves}
 use Rattle.rule.proofs.Configurations.{configured}

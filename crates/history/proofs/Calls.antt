@@ -13,14 +13,14 @@ use Rattle.messages.specs.Reading.{messagesFrom}
 use Rattle.messages.specs.Writing.{bitsOfAll}
 use Rattle.messages.specs.declared.Message.{Message}
 use Rattle.messages.proofs.Listing.{nothing-between, messages-of-read}
-use Rattle.requests.specs.Lists.{combinesIn}
+use Rattle.requests.specs.Lists.{Small, combinesIn}
 use Rattle.requests.specs.Reading.{requestsOf}
 use Rattle.requests.specs.declared.Request.{Request}
 use Rattle.requests.specs.declared.Request.the-variants.{Combine, Write}
 use Rattle.requests.proofs.Runs.{read-sized, counts-right}
 use Rattle.session.specs.Holding.{Typed}
 use Rattle.session.specs.declared.Session.{Session}
-use Rattle.mechanism.specs.Requests.{Small, says}
+use Rattle.mechanism.specs.Requests.{says}
 use Rattle.aggregate.specs.Serving.{servedOf, logOf}
 use Rattle.aggregate.specs.Running.{Running, start, Ended, runs, listRefusal, endOf, ranOf, answersOf, runLogOf, spokenIn}
 use Rattle.aggregate.proofs.Verdicts.{answers, refuses, logs-nothing, verdict}

@@ -7,17 +7,17 @@ use lib.IntN.{ℤ}
 use lib.ListN.{length, take}
 use Rattle.tree.specs.Operation.{sum}
 use Rattle.messages.specs.declared.Message.{Message}
-use Rattle.requests.specs.Lists.{oneIfCombine, combinesIn, Sized, AllSized}
+use Rattle.requests.specs.Lists.{Small, oneIfCombine, combinesIn, Sized, AllSized}
 use Rattle.requests.specs.declared.Request.{Request}
 use Rattle.requests.specs.declared.Request.the-variants.{Combine, Write}
 use Rattle.session.specs.declared.Session.{Session}
-use Rattle.mechanism.specs.Requests.{Small, says, after}
+use Rattle.mechanism.specs.Requests.{says, after}
 use Rattle.mechanism.proofs.Fits.{sum-written}
 use Rattle.aggregate.specs.Serving.{servedOf}
 use Rattle.aggregate.specs.Running.{Running, inTurn, stored, done, Serves, all-done, stopped, accepted, spokenIn}
 use Rattle.aggregate.specs.declared.Served.{Served}
 use Rattle.aggregate.proofs.Verdicts.{accepted-by, answers}
-use Rattle.aggregate.proofs.Runs.{small, stored-length}
+use Rattle.aggregate.proofs.Runs.{stored-length}
 use Rattle.history.specs.History.{answerOf}
 use Rattle.history.proofs.Lists.{take-set}
 use Rattle.history.proofs.Succession.{InOrder, afterAll, answersTo, spokenBy, AllInOrder}
@@ -57,7 +57,7 @@ went-more r l o o′ sized e w =
     let k = o .totals .answers in
     let rest = answersTo sum 2 (after sum 2 s r) l in
     record {
-      in-order = (in-order-by s r (length (o .log)) (o .totals .next) (small r sized) e, rw f at (w .in-order));
+      in-order = (in-order-by s r (length (o .log)) (o .totals .next) (sized .1) e, rw f at (w .in-order));
       session-is = w .session-is ∙ ap (λ (t : Session). afterAll sum 2 t l) f;
       spoken = rw e (ap (λ (ms : List Message). says sum s r .log ++ ms) (w .spoken ∙ ap (λ (t : Session). spokenBy sum 2 t l) f));
       told = λ h.

@@ -13,7 +13,7 @@ use Rattle.messages.specs.declared.Message.{Message}
 use Rattle.messages.proofs.Stretches.{bits-append}
 use Rattle.requests.specs.Lists.{AllSized, listOf, combinesIn}
 use Rattle.requests.specs.declared.Request.{Request}
-use Rattle.requests.proofs.Refusals.{ruled-exactly}
+use Rattle.requests.proofs.Refusals.{list-ruled-exactly}
 use Rattle.requests.proofs.Written.{list-reads-back}
 use Rattle.session.specs.declared.Session.{Session}
 use Rattle.session.proofs.Soundly.{sound-exactly}
@@ -22,7 +22,7 @@ use Rattle.mechanism.specs.Refusals as refusals
 use Rattle.mechanism.proofs.Fits.{messages-fit, never-misfit, sum-ranging}
 use Rattle.aggregate.specs.Running.{Running, start, inTurn, done, runs, listRefusal, starts}
 use Rattle.aggregate.proofs.Verdicts.{answers, refused-exactly}
-use Rattle.aggregate.proofs.Logging.{length-kept}
+use Rattle.aggregate.proofs.Logging.{request-length-kept}
 use Rattle.aggregate.proofs.Runs.{serves, reach}
 use Rattle.aggregate.proofs.Listing.{whole-exactly, ran-is}
 use Rattle.aggregate.proofs.Speaking.{spoke}
@@ -55,7 +55,7 @@ finishes (r ∷ l) o f (i, h) room =
     let joined = bits-append said later in
     let taken = accepts r o f i (omega (arith, room, joined)) in
     let a = answers s r (length (o .log)) (o .totals .next) taken in
-    let same = length-kept s r (o .log) (o .totals .next) in
+    let same = request-length-kept s r (o .log) (o .totals .next) in
     let rest : o .totals .next + bitsOfAll said + bitsOfAll later ≤ usableBits (length (o .log)) = omega (arith, room, joined) in
     rw taken (finishes l (done r o) (rw a (trusted-after sum 2 s r f i sum-ranging)) (rw a h) (rw (a, same) rest))
 
@@ -82,7 +82,7 @@ module _ (s : Session) (rs : List Request) (places : List ℤ) (log : List ℕ) 
   finished good sized few h enough room =
       let read = list-reads-back rs sized few in
       let begun : listRefusal s (listOf rs) (length places) ≡ 0
-      = whole-exactly s (listOf rs) (length places) 0 .1 (starts (ruled-exactly (listOf rs) 0 .0 (read .0)) (rw (read .1) enough) (sound-exactly 2 s .1 (good .holds))) in
+      = whole-exactly s (listOf rs) (length places) 0 .1 (starts (list-ruled-exactly (listOf rs) 0 .0 (read .0)) (rw (read .1) enough) (sound-exactly 2 s .1 (good .holds))) in
       let ended = finishes rs first (trusted s good) h room in
       let came = reach rs first in
       let w = went rs first last sized (rw ended at (serves rs first)) in

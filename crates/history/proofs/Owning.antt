@@ -8,7 +8,7 @@ use lib.IntN.{ℤ}
 use lib.ListN.{length, length-append}
 use Rattle.tree.specs.Operation.{Op}
 use Rattle.tree.specs.Sides.{side}
-use Rattle.tree.specs.Tours.{when, kept}
+use Rattle.tree.specs.Kept.{when, kept}
 use Rattle.tree.proofs.Lists.{kept-append}
 use Rattle.rule.specs.Pair.{combine, write, belongs, own, numberAfter, messages}
 use Rattle.rule.specs.Pair as pair
@@ -16,7 +16,8 @@ use Rattle.messages.specs.declared.Message.{Message}
 use Rattle.requests.specs.declared.Request.{Request}
 use Rattle.session.specs.Holding.{leaseOf, sentOf}
 use Rattle.session.specs.declared.Session.{Session}
-use Rattle.mechanism.specs.Requests.{nodeOf, kindOf, says, after}
+use Rattle.requests.specs.Lists.{nodeOf}
+use Rattle.mechanism.specs.Requests.{kindOf, says, after}
 use Rattle.mechanism.specs.Pairwise.{about, moves, pays, speaks, toldOf, exchange, Pair, Ranging}
 use Rattle.mechanism.proofs.Says.{lemma-4-1}
 use Rattle.mechanism.proofs.Payments.{counted}

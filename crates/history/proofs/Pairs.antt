@@ -8,7 +8,7 @@ use lib.Dec.{eqb}
 use borrow.Author.Tests.{eq-eqb, ne-eqb}
 use Rattle.tree.specs.Operation.{fold, pick, aggregate, plus}
 use Rattle.tree.specs.Sides.{adjacent}
-use Rattle.tree.specs.Tours.{keepIf, kept}
+use Rattle.tree.specs.Kept.{keepIf, kept}
 use Rattle.tree.specs.declared.Tree.{Tree}
 use Rattle.tree.proofs.Folds.{related, same, split, zeros, only}
 use Rattle.messages.specs.declared.Message.{Message}

@@ -10,7 +10,7 @@ use Rattle.fields.specs.Usable.{usableBits}
 use Rattle.twos.specs.Twos.{within}
 use Rattle.tree.specs.Operation.{sum}
 use Rattle.tree.specs.Parents.{InRule}
-use Rattle.tree.specs.Tours.{kept}
+use Rattle.tree.specs.Kept.{kept}
 use Rattle.tree.specs.declared.Tree.{Tree}
 use Rattle.rule.specs.Pair.{belongs, own, next, messages}
 use Rattle.rule.specs.Pair as pair
@@ -60,7 +60,7 @@ module _ (y z : ℕ → ℤ) where
   rounds-sized : ((k : ℕ) → (within 32 (y k) ≡ true) × (within 32 (z k) ≡ true)) → (n : ℕ) → AllSized (roundsOf y z n)
   unfolding roundsOf
   rounds-sized small zero = tt
-  rounds-sized small (suc n) = (omega arith, ((omega arith, small n .0), ((omega arith, small n .1), rounds-sized small n)))
+  rounds-sized small (suc n) = ((omega arith, tt), ((omega arith, small n .0), ((omega arith, small n .1), rounds-sized small n)))
 
   -- all of them are of the own list of (1,0), and none of that of (0,1)
   own-up : (t : Tree) (n : ℕ) → ownOf t 1 0 (roundsOf y z n) ≡ pair.rounds n

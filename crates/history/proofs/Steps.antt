@@ -15,7 +15,8 @@ use Rattle.requests.specs.declared.Request.{Request}
 use Rattle.requests.specs.declared.Request.the-variants.{Combine, Write}
 use Rattle.session.specs.Holding.{valueOf, leaseOf, sentOf}
 use Rattle.session.specs.declared.Session.{Session}
-use Rattle.mechanism.specs.Requests.{nodeOf, kindOf, afterCombine, afterWrite, after}
+use Rattle.requests.specs.Lists.{nodeOf}
+use Rattle.mechanism.specs.Requests.{kindOf, afterCombine, afterWrite, after}
 use Rattle.mechanism.specs.Pairwise.{moves, pays, Pair, Ranging}
 use Rattle.mechanism.proofs.Owned.{Owned}
 use Rattle.mechanism.proofs.Held.{lease-held, sent-held}

@@ -8,7 +8,8 @@ use Rattle.requests.specs.declared.Request.{Request}
 use Rattle.session.specs.Holding.{Typed}
 use Rattle.session.specs.Soundness.{limit, Sound}
 use Rattle.session.specs.declared.Session.{Session}
-use Rattle.mechanism.specs.Requests.{nodeOf, Small, says, after}
+use Rattle.requests.specs.Lists.{nodeOf, Small}
+use Rattle.mechanism.specs.Requests.{says, after}
 use Rattle.mechanism.specs.Pairwise.{Right, Plain, PlainlyWritten}
 use Rattle.history.specs.History.{answerOf}
 

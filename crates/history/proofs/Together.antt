@@ -3,7 +3,7 @@ use mathlib.Core.Path.{_≡_, refl, ap, _∙_}
 use Prim.Native.Nat.{ℕ, _+_}
 use lib.ListN.{length, length-append}
 use Rattle.tree.specs.Operation.{sum}
-use Rattle.tree.specs.Tours.{kept}
+use Rattle.tree.specs.Kept.{kept}
 use Rattle.session.specs.Holding.{sentOf}
 use Rattle.session.specs.declared.Session.{Session}
 use Rattle.mechanism.specs.Pairwise.{about, Pair}

@@ -7,7 +7,7 @@ use native.Mathlib.Omega.{arith}
 use borrow.Author.Tests.{eq-eqb}
 use Rattle.tree.specs.Parents.{parent}
 use Rattle.tree.specs.Sides.{adjacent, side}
-use Rattle.tree.specs.Tours.{kept}
+use Rattle.tree.specs.Kept.{kept}
 use Rattle.tree.proofs.Below.{below-self, below-root}
 use Rattle.messages.specs.declared.Message.{Message}
 use Rattle.session.specs.Soundness.{Sound}

@@ -11,13 +11,13 @@ use Rattle.fields.specs.Usable.{usableBits}
 use Rattle.twos.specs.Twos.{within}
 use Rattle.tree.specs.Operation.{fold, aggregate, plus, sum}
 use Rattle.tree.specs.Sides.{adjacent, side}
-use Rattle.tree.specs.Tours.{when}
+use Rattle.tree.specs.Kept.{when}
 use Rattle.tree.specs.declared.Tree.{Tree}
 use Rattle.rule.specs.Pair.{own}
 use Rattle.rule.specs.Pair as pair
 use Rattle.messages.specs.Reading.{messagesFrom}
 use Rattle.messages.specs.declared.Message.{Message}
-use Rattle.requests.specs.Lists.{listOf}
+use Rattle.requests.specs.Lists.{nodeOf, listOf}
 use Rattle.requests.specs.Reading.{requestsOf}
 use Rattle.requests.specs.declared.Request.{Request}
 use Rattle.requests.specs.declared.Request.the-variants.{Combine, Write}
@@ -25,7 +25,7 @@ use Rattle.session.specs.Holding.{Typed}
 use Rattle.session.specs.Soundness.{Sound}
 use Rattle.session.specs.Starting.{startedOf, loadedOf}
 use Rattle.session.specs.declared.Session.{Session}
-use Rattle.mechanism.specs.Requests.{nodeOf, kindOf}
+use Rattle.mechanism.specs.Requests.{kindOf}
 use Rattle.mechanism.specs.Pairwise.{Right}
 use Rattle.aggregate.specs.Serving.{servedOf, logOf}
 use Rattle.aggregate.specs.Running.{listRefusal, ranOf, answersOf, runLogOf}

@@ -8,7 +8,7 @@ use lib.ListN.{length, getD}
 use denote.Ref.{now}
 use Rattle.twos.specs.Twos.{within}
 use Rattle.tree.specs.Operation.{fold, sum}
-use Rattle.tree.specs.Tours.{kept}
+use Rattle.tree.specs.Kept.{kept}
 use Rattle.tree.specs.declared.Tree.{Tree}
 use Rattle.rule.specs.Pair.{numberAfter, messages}
 use Rattle.rule.specs.Schedules.{Mode, off, Schedule, staysOff}

@@ -8,7 +8,7 @@ use lib.Dec.{eqb}
 use lib.IntN.{ℤ}
 use borrow.Author.Tests.{ne-eqb}
 use Rattle.tree.specs.Sides.{side}
-use Rattle.tree.specs.Tours.{when, kept}
+use Rattle.tree.specs.Kept.{when, kept}
 use Rattle.tree.proofs.Toward.{adjacent-ne, complementary}
 use Rattle.rule.specs.Pair.{combine, write, next, price}
 use Rattle.messages.specs.declared.Message.{Message}

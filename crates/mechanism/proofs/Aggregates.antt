@@ -8,7 +8,7 @@ use Rattle.tree.specs.Parents.{Grown}
 use Rattle.tree.specs.Sides.{adjacent, side, other}
 use Rattle.tree.specs.Turns.{turn}
 use Rattle.tree.proofs.Folds.{same-nodes, same-where}
-use Rattle.tree.proofs.SideLaw.{side-law, whole}
+use Rattle.tree.proofs.SideLaw.{side-law, whole-law}
 use Rattle.tree.proofs.Turns.{any-order}
 use Rattle.mechanism.specs.Views.{View}
 use Rattle.mechanism.specs.Spreading.{addIf, total}
@@ -50,4 +50,4 @@ module _ (op : Op ℤ) (q : View) (grown : Grown (q .parents) (q .count)) (plain
       total-is g x x hx
       ∙ ap (λ a. q .value x ⊕ a) (same-where op (other (q .parents) x x) g (λ c. held c x) (q .count) h
       ∙ same-nodes op (other (q .parents) x x) (λ c. adjacent (q .parents) c x) (λ c. held c x) (q .count) (λ c l. all-others (q .parents) x c))
-      ∙ sym (whole (q .parents) (q .count) grown ℤ op (q .value) x hx)
+      ∙ sym (whole-law (q .parents) (q .count) grown ℤ op (q .value) x hx)

@@ -12,7 +12,8 @@ use Rattle.tree.specs.Parents.{Grown}
 use Rattle.tree.specs.Sides.{adjacent, other}
 use Rattle.tree.specs.Sizes.{size}
 use Rattle.tree.specs.Turns.{turn, joined}
-use Rattle.tree.specs.Tours.{when, visit, tour}
+use Rattle.tree.specs.Kept.{when}
+use Rattle.tree.specs.inner.Tours.{visit, tour}
 use Rattle.tree.proofs.Toward.{adjacent-sym}
 use Rattle.tree.proofs.Sizes.{size-least, size-less, sizes-add}
 use Rattle.tree.proofs.Turns.{round-same}

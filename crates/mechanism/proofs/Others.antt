@@ -15,7 +15,7 @@ use Rattle.tree.specs.Sizes.{size}
 use Rattle.tree.proofs.Cases.{lt-or-le}
 use Rattle.tree.proofs.Folds.{related}
 use Rattle.tree.proofs.Toward.{adjacent-ne}
-use Rattle.tree.proofs.SideLaw.{whole}
+use Rattle.tree.proofs.SideLaw.{whole-law}
 use Rattle.tree.proofs.Sizes.{all-ones, sizes-add}
 
 -- what it takes to be one
@@ -49,7 +49,7 @@ module _ (ps : List ℕ) (n : ℕ) (grown : Grown ps n) where
   -- u and the sides of its other neighbours are at most all nodes
   pub beyond : (u v : ℕ) → u < n → 1 + aggregate plus (λ w. size ps n w u) (other ps u v) n ≤ n
   beyond u v hu =
-      let e = sym (all-ones n) ∙ whole ps n grown ℕ plus (λ j. 1) u hu in
+      let e = sym (all-ones n) ∙ whole-law ps n grown ℕ plus (λ j. 1) u hu in
       omega (arith, e, fold-most 1 (λ w. pick plus (other ps u v w) (size ps n w u)) (λ w. pick plus (adjacent ps w u) (size ps n w u)) n (λ w h. one (adjacent ps w u) (not (eqb v w)) (size ps n w u)))
     where
       one : (a b : Bool) (k : ℕ) → pick plus (a && b) k ≤ 1 * pick plus a k

@@ -13,7 +13,8 @@ use Rattle.session.specs.Soundness.{Sound}
 use Rattle.session.specs.declared.Session.{Session}
 use Rattle.mechanism.specs.Views.{view}
 use Rattle.mechanism.specs.Applying.{fromOf, toOf}
-use Rattle.mechanism.specs.Requests.{valued, nodeOf, says}
+use Rattle.requests.specs.Lists.{nodeOf}
+use Rattle.mechanism.specs.Requests.{valued, says}
 use Rattle.mechanism.specs.Spreading.{released}
 use Rattle.mechanism.specs.Pairwise.{Pair}
 use Rattle.mechanism.proofs.Asking.{asks, probes, responses}

@@ -7,10 +7,11 @@ use lib.IntN.{ℤ}
 use lib.ListN.{length}
 use borrow.Author.Tests.{ne-eqb}
 use Rattle.tree.specs.Sides.{side}
-use Rattle.tree.specs.Tours.{when}
+use Rattle.tree.specs.Kept.{when}
 use Rattle.rule.specs.Pair.{Request, combine, write, price}
 use Rattle.session.specs.Holding.{leaseOf}
-use Rattle.mechanism.specs.Requests.{nodeOf, kindOf}
+use Rattle.requests.specs.Lists.{nodeOf}
+use Rattle.mechanism.specs.Requests.{kindOf}
 use Rattle.mechanism.specs.Pairwise.{pays, speaks, exchange, toldOf}
 use Rattle.mechanism.specs.Promises.{Pair-pays}
 use Rattle.mechanism.proofs.Says.{lemma-4-1}

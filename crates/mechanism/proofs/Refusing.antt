@@ -13,7 +13,7 @@ use Rattle.messages.specs.declared.Message.{Message}
 use Rattle.session.specs.Soundness.{limit, sound}
 use Rattle.session.specs.declared.Session.{Session}
 use Rattle.mechanism.specs.Refusals.{allFit, Ruled, unsound, no-node, no-more, no-room, misfit, accepted, refusalOf}
-use Rattle.mechanism.specs.Promises.{Ruled-exactly}
+use Rattle.mechanism.specs.Promises.{Request-ruled-exactly}
 
 module _ (b : ℕ) (s : Session) (x len place : ℕ) (ms : List Message) where
   full : sound b s ≡ true → x < s .tree .count → s .accepted < limit → usableBits len < place + bitsOfAll ms → refusalOf b s x len place ms ≡ 9
@@ -47,7 +47,7 @@ module _ (b : ℕ) (s : Session) (x len place : ℕ) (ms : List Message) where
           (λ k. (8, no-more a h k)))
           (λ h. (7, no-node a h))
 
-pub ruled-exactly : Ruled-exactly
-ruled-exactly b s x len place ms r =
+pub request-ruled-exactly : Request-ruled-exactly
+request-ruled-exactly b s x len place ms r =
     let j = ruled b s x len place ms in
     (λ e. subst (Ruled b s x len place ms) (sym (ruled-once b s x len place ms (j .0) (j .1)) ∙ e) (j .1), ruled-once b s x len place ms r)

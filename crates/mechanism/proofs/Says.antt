@@ -7,7 +7,8 @@ use native.Mathlib.Nat.{le-refl}
 use native.Mathlib.Omega.{arith}
 use lib.Dec.{eqb}
 use borrow.Author.Tests.{eqb-true, eqb-false, eq-eqb, ne-eqb, not-true}
-use Rattle.tree.specs.Tours.{when, Closed, keepIf, kept}
+use Rattle.tree.specs.Kept.{when, keepIf, kept}
+use Rattle.tree.specs.inner.Tours.{Closed}
 use Rattle.tree.proofs.Toward.{adjacent-ne, adjacent-sym, complementary}
 use Rattle.tree.proofs.Tours.{visited-once}
 use Rattle.messages.specs.declared.Message.{Message}

@@ -10,7 +10,7 @@ use lib.Dec.{eqb, ltb}
 use borrow.Author.Tests.{eqb-true, eq-eqb, ne-eqb, lt-ltb, le-ltb}
 use Rattle.tree.specs.Parents.{parent}
 use Rattle.tree.specs.Sides.{adjacent}
-use Rattle.tree.specs.Tours.{keepIf, kept}
+use Rattle.tree.specs.Kept.{keepIf, kept}
 use Rattle.tree.proofs.Cases.{either, order}
 use Rattle.tree.proofs.Toward.{adjacent-ne, adjacent-sym}
 use Rattle.messages.specs.declared.Message.{Message}

@@ -14,7 +14,8 @@ use Rattle.tree.specs.Operation.{Op}
 use Rattle.tree.specs.Parents.{Grown}
 use Rattle.tree.specs.Sides.{adjacent, side, other}
 use Rattle.tree.specs.Sizes.{size}
-use Rattle.tree.specs.Tours.{when, visit, tour}
+use Rattle.tree.specs.Kept.{when}
+use Rattle.tree.specs.inner.Tours.{visit, tour}
 use Rattle.tree.proofs.Cases.{either}
 use Rattle.tree.proofs.Toward.{adjacent-ne, adjacent-sym, complementary, own, not-own, nested}
 use Rattle.tree.proofs.Sizes.{size-least, size-less, sizes-add}

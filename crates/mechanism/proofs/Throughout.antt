@@ -6,7 +6,8 @@ use Prim.Native.Nat.{ℕ, zero, suc, _<_}
 use native.Mathlib.Omega.{arith}
 use Rattle.tree.specs.Sides.{adjacent, other}
 use Rattle.tree.specs.Turns.{turn, joined}
-use Rattle.tree.specs.Tours.{when, onward, visit, tour}
+use Rattle.tree.specs.Kept.{when}
+use Rattle.tree.specs.inner.Tours.{onward, visit, tour}
 use Rattle.tree.proofs.Toward.{adjacent-sym}
 use Rattle.tree.proofs.Turns.{turn-inside}
 use Rattle.tree.proofs.Tours.{goes}

@@ -9,7 +9,7 @@ use lib.ListN.{length}
 use Rattle.fields.specs.Usable.{usableBits}
 use Rattle.tree.specs.Operation.{Op, fold, sum}
 use Rattle.tree.specs.Sides.{side}
-use Rattle.tree.specs.Tours.{when, kept}
+use Rattle.tree.specs.Kept.{when, kept}
 use Rattle.tree.specs.declared.Tree.{Tree}
 use Rattle.messages.specs.Records.{AllSized}
 use Rattle.messages.specs.Writing.{logged, bitsOfAll}
@@ -21,7 +21,8 @@ use Rattle.session.specs.Soundness.{limit, Sound}
 use Rattle.session.specs.Starting.{freshOf}
 use Rattle.session.specs.declared.Session.{Session}
 use Rattle.mechanism.specs.Applying.{cell}
-use Rattle.mechanism.specs.Requests.{combines, linksOf, nodeOf, kindOf, Small, says, after}
+use Rattle.requests.specs.Lists.{nodeOf, Small}
+use Rattle.mechanism.specs.Requests.{combines, linksOf, kindOf, says, after}
 use Rattle.mechanism.specs.Refusals.{Ruled, refusalOf, allFit}
 use Rattle.mechanism.specs.Pairwise.{about, moves, pays, speaks, toldOf, exchange, Pair, Right, Plain, Ranging, PlainlyWritten}
 
@@ -86,8 +87,8 @@ Fresh-right = (op : Op ℤ) (t : Tree) → length (t .parents) ≡ 256 → Typed
 -- ---- refusals
 
 -- The refusal is computed exactly as document 01 says.
-abbrev pub Ruled-exactly : Type 0
-Ruled-exactly = (b : ℕ) (s : Session) (x len place : ℕ) (ms : List Message) (r : ℕ) → (refusalOf b s x len place ms ≡ r) ↔ Ruled b s x len place ms r
+abbrev pub Request-ruled-exactly : Type 0
+Request-ruled-exactly = (b : ℕ) (s : Session) (x len place : ℕ) (ms : List Message) (r : ℕ) → (refusalOf b s x len place ms ≡ r) ↔ Ruled b s x len place ms r
 
 -- Ranges go through the sum, and it has a unit.
 abbrev pub Sum-ranging : Type 0

@@ -1,11 +1,8 @@
 -- A session's requests: what they say and answer, and the session after them.
-use mathlib.Core.Path.{_≡_}
-use mathlib.Core.Bool.{true}
 use mathlib.Core.List.{List}
 use Prim.Native.Nat.{ℕ, _+_}
 use lib.IntN.{ℤ, pos}
 use lib.ListN.{set}
-use Rattle.twos.specs.Twos.{within}
 use Rattle.tree.specs.Operation.{Op}
 use Rattle.rule.specs.Pair as pair
 use Rattle.requests.specs.declared.Request.{Request}
@@ -44,18 +41,10 @@ afterWrite op s x z = relinked (valued s x z) (applied (writes op s x z) (linksO
 
 -- ---- the same of a request
 
--- the node it is at, its kind, and that what is written has 32 bits
-abbrev pub nodeOf : Request → ℕ
-nodeOf (Combine x) = x
-nodeOf (Write x z) = x
-
+-- its kind
 abbrev pub kindOf : Request → pair.Request
 kindOf (Combine x) = pair.combine
 kindOf (Write x z) = pair.write
-
-abbrev pub Small : Request → Type 0
-Small (Combine x) = Unit
-Small (Write x z) = within 32 z ≡ true
 
 -- what it answers and says: 0 is the answer of a write
 abbrev pub says : Op ℤ → Session → Request → Said

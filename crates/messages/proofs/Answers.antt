@@ -14,13 +14,13 @@ use Rattle.fields.specs.Fields.{putField}
 use Rattle.fields.specs.Usable.{usableBits, putAt}
 use Rattle.fields.proofs.Rooms.{taken-is-put}
 use Rattle.messages.specs.Records.{kindOf, fits, bitsOf, recordOf, coded, codedOf, toldCoded}
-use Rattle.messages.specs.Writing.{room, writtenOf, logAfter, toldWritten}
-use Rattle.messages.specs.Promises.{Coded-exactly, Uncoded-exactly, Written-exactly, Full-exactly, Misfit-exactly, Refused-log-kept}
+use Rattle.messages.specs.Writing.{room, recordedOf, logAfter, toldRecorded}
+use Rattle.messages.specs.Promises.{Coded-exactly, Uncoded-exactly, Recorded-exactly, Full-exactly, Misfit-exactly, Refused-log-kept}
 use Rattle.messages.specs.declared.Message.{Message}
 use Rattle.messages.specs.declared.Coded.{Coded}
 use Rattle.messages.specs.declared.Coded.the-variants as coding
-use Rattle.messages.specs.declared.Written.{Written}
-use Rattle.messages.specs.declared.Written.the-variants.{Next, Full, Misfit}
+use Rattle.messages.specs.declared.Recorded.{Recorded}
+use Rattle.messages.specs.declared.Recorded.the-variants.{Next, Full, Misfit}
 use Rattle.messages.proofs.Widths.{width-bounds}
 
 -- the test for room by what is left from place on
@@ -32,27 +32,27 @@ by-rest place width end h = go (decLe width (end - place))
     go (no l) = lt-leb width (end - place) (omega arith) ∙ sym (lt-leb (place + width) end (omega arith))
 
 module _ (n place : ℕ) (m : Message) where
-  pub answer-next : place + bitsOf m ≤ usableBits n → fits m ≡ true → writtenOf n place m ≡ Next (place + bitsOf m)
-  unfolding writtenOf
+  pub answer-next : place + bitsOf m ≤ usableBits n → fits m ≡ true → recordedOf n place m ≡ Next (place + bitsOf m)
+  unfolding recordedOf
   answer-next h f = rw (le-leb (place + bitsOf m) (usableBits n) h, f)
 
-  pub answer-misfit : place + bitsOf m ≤ usableBits n → fits m ≡ false → writtenOf n place m ≡ Misfit
-  unfolding writtenOf
+  pub answer-misfit : place + bitsOf m ≤ usableBits n → fits m ≡ false → recordedOf n place m ≡ Misfit
+  unfolding recordedOf
   answer-misfit h f = rw (le-leb (place + bitsOf m) (usableBits n) h, f)
 
-  pub answer-full : usableBits n < place + bitsOf m → writtenOf n place m ≡ Full
-  unfolding writtenOf
+  pub answer-full : usableBits n < place + bitsOf m → recordedOf n place m ≡ Full
+  unfolding recordedOf
   answer-full h = rw (lt-leb (place + bitsOf m) (usableBits n) h)
 
   -- there are no other cases
-  by-case : (P : Written → Type 0)
+  by-case : (P : Recorded → Type 0)
       → (place + bitsOf m ≤ usableBits n → fits m ≡ true → P (Next (place + bitsOf m)))
       → (place + bitsOf m ≤ usableBits n → fits m ≡ false → P Misfit)
       → (usableBits n < place + bitsOf m → P Full)
-      → P (writtenOf n place m)
+      → P (recordedOf n place m)
   by-case P next misfit full = go (decLe (place + bitsOf m) (usableBits n)) (fits m) refl
     where
-      go : Dec (place + bitsOf m ≤ usableBits n) → (b : Bool) → fits m ≡ b → P (writtenOf n place m)
+      go : Dec (place + bitsOf m ≤ usableBits n) → (b : Bool) → fits m ≡ b → P (recordedOf n place m)
       go (yes h) true f = rw (answer-next h f) (next h f)
       go (yes h) false f = rw (answer-misfit h f) (misfit h f)
       go (no h) b f = let l : usableBits n < place + bitsOf m = omega arith in rw (answer-full l) (full l)
@@ -74,31 +74,31 @@ refused-log-kept s place m =
 abbrev code : ℕ × ℕ → ℕ
 code t = t .0
 
-pub written-exactly : Written-exactly
-written-exactly n place next m = (
-  by-case n place m (λ x. toldWritten x ≡ (0, next) → (place + bitsOf m ≤ usableBits n) × (fits m ≡ true) × (next ≡ place + bitsOf m))
+pub recorded-exactly : Recorded-exactly
+recorded-exactly n place next m = (
+  by-case n place m (λ x. toldRecorded x ≡ (0, next) → (place + bitsOf m ≤ usableBits n) × (fits m ≡ true) × (next ≡ place + bitsOf m))
       (λ h f e. (h, f, sym (ap (λ (t : ℕ × ℕ). t .1) e)))
       (λ h f e. absurd (suc-ne-zero 10 (ap code e)))
       (λ h e. absurd (suc-ne-zero 8 (ap code e))),
-  λ (h, f, e). ap toldWritten (answer-next n place m h f) ∙ ap (λ (p : ℕ). (0, p)) (sym e),
+  λ (h, f, e). ap toldRecorded (answer-next n place m h f) ∙ ap (λ (p : ℕ). (0, p)) (sym e),
 )
 
 pub full-exactly : Full-exactly
 full-exactly n place m = (
-  by-case n place m (λ x. toldWritten x ≡ (9, 0) → usableBits n < place + bitsOf m)
+  by-case n place m (λ x. toldRecorded x ≡ (9, 0) → usableBits n < place + bitsOf m)
       (λ h f e. absurd (suc-ne-zero 8 (sym (ap code e))))
       (λ h f e. let y : 11 ≡ 9 = ap code e in omega arith)
       (λ h e. h),
-  λ h. ap toldWritten (answer-full n place m h),
+  λ h. ap toldRecorded (answer-full n place m h),
 )
 
 pub misfit-exactly : Misfit-exactly
 misfit-exactly n place m = (
-  by-case n place m (λ x. toldWritten x ≡ (11, 0) → (place + bitsOf m ≤ usableBits n) × (fits m ≡ false))
+  by-case n place m (λ x. toldRecorded x ≡ (11, 0) → (place + bitsOf m ≤ usableBits n) × (fits m ≡ false))
       (λ h f e. absurd (suc-ne-zero 10 (sym (ap code e))))
       (λ h f e. (h, f))
       (λ h e. let y : 9 ≡ 11 = ap code e in absurd (omega arith)),
-  λ (h, f). ap toldWritten (answer-misfit n place m h f),
+  λ (h, f). ap toldRecorded (answer-misfit n place m h f),
 )
 
 -- ---- a message as a number

@@ -14,7 +14,7 @@ use Rattle.fields.specs.Fields.{field}
 use Rattle.fields.specs.Usable.{usableBits}
 use Rattle.messages.specs.Records.{widthOf, kindOf, bitsOf, recordOf, Sized}
 use Rattle.messages.specs.Reading.{messageAt, entryOf, entryAt, told}
-use Rattle.messages.specs.Promises.{Read-exactly, End-exactly, Short-exactly}
+use Rattle.messages.specs.Promises.{Read-exactly, End-exactly, Entry-short-exactly}
 use Rattle.messages.specs.declared.Message.{Message}
 use Rattle.messages.specs.declared.Entry.{Entry}
 use Rattle.messages.specs.declared.Entry.the-variants.{Read, End, Short}
@@ -121,8 +121,8 @@ end-exactly s place end = (
   λ h. ap told (entry-end s place end (h .0) (h .1)),
 )
 
-pub short-exactly : Short-exactly
-short-exactly s place end = (
+pub entry-short-exactly : Entry-short-exactly
+entry-short-exactly s place end = (
   by-case s place end (λ x. told x ≡ (1, []) → (usableBits (length s) < end) ⊎ Cut)
       (λ h e. inl h)
       (λ h d e. absurd (suc-ne-zero 0 (sym (ap code e))))

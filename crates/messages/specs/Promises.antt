@@ -9,7 +9,7 @@ use Rattle.fields.specs.Bits.{bit}
 use Rattle.fields.specs.Fields.{field}
 use Rattle.fields.specs.Usable.{usableBits}
 use Rattle.messages.specs.Records.{Sized, AllSized, fits, bitsOf, recordOf, widthOf, coded, codedOf, toldCoded}
-use Rattle.messages.specs.Writing.{writtenOf, logAfter, toldWritten, logged, bitsOfAll}
+use Rattle.messages.specs.Writing.{recordedOf, logAfter, toldRecorded, logged, bitsOfAll}
 use Rattle.messages.specs.Reading.{decoded, entryAt, told, Reads, messagesFrom}
 use Rattle.messages.specs.declared.Message.{Message}
 
@@ -29,16 +29,16 @@ abbrev pub Coded-back : Type 0
 Coded-back = (m : Message) → Sized m → decoded (coded m) ≡ m
 
 -- A message is written exactly where its record lies in the usable log and its value fits 40 bits;
-abbrev pub Written-exactly : Type 0
-Written-exactly = (n place next : ℕ) (m : Message) → (toldWritten (writtenOf n place m) ≡ (0, next)) ↔ ((place + bitsOf m ≤ usableBits n) × (fits m ≡ true) × (next ≡ place + bitsOf m))
+abbrev pub Recorded-exactly : Type 0
+Recorded-exactly = (n place next : ℕ) (m : Message) → (toldRecorded (recordedOf n place m) ≡ (0, next)) ↔ ((place + bitsOf m ≤ usableBits n) × (fits m ≡ true) × (next ≡ place + bitsOf m))
 
 -- it is refused with 9 exactly where the usable log ends before its record does,
 abbrev pub Full-exactly : Type 0
-Full-exactly = (n place : ℕ) (m : Message) → (toldWritten (writtenOf n place m) ≡ (9, 0)) ↔ (usableBits n < place + bitsOf m)
+Full-exactly = (n place : ℕ) (m : Message) → (toldRecorded (recordedOf n place m) ≡ (9, 0)) ↔ (usableBits n < place + bitsOf m)
 
 -- and with 11 exactly where there is room, but the value does not fit.
 abbrev pub Misfit-exactly : Type 0
-Misfit-exactly = (n place : ℕ) (m : Message) → (toldWritten (writtenOf n place m) ≡ (11, 0)) ↔ ((place + bitsOf m ≤ usableBits n) × (fits m ≡ false))
+Misfit-exactly = (n place : ℕ) (m : Message) → (toldRecorded (recordedOf n place m) ≡ (11, 0)) ↔ ((place + bitsOf m ≤ usableBits n) × (fits m ≡ false))
 
 -- Writing keeps the log's length, and the bits before and after the record, also inside a shared byte;
 abbrev pub Log-length-kept : Type 0
@@ -61,8 +61,8 @@ abbrev pub End-exactly : Type 0
 End-exactly = (s : List ℕ) (place end : ℕ) → (told (entryAt s place end) ≡ (0, [])) ↔ ((end ≤ usableBits (length s)) × (place ≡ end))
 
 -- it is refused with 1 exactly where the end is past the usable log, the place is past the end, or fewer bits are left before the end than the record has.
-abbrev pub Short-exactly : Type 0
-Short-exactly = (s : List ℕ) (place end : ℕ) → (told (entryAt s place end) ≡ (1, []))
+abbrev pub Entry-short-exactly : Type 0
+Entry-short-exactly = (s : List ℕ) (place end : ℕ) → (told (entryAt s place end) ≡ (1, []))
     ↔ ((usableBits (length s) < end) ⊎ ((end < place) ⊎ ((place < end) × (end < place + widthOf (field s place 2)))))
 
 -- A list of messages written from a place reads back, message by message, to the place after the last, whatever stood in the log before.

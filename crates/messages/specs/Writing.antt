@@ -8,26 +8,26 @@ use Rattle.fields.specs.Fields.{putField}
 use Rattle.fields.specs.Usable.{usableBits}
 use Rattle.messages.specs.Records.{fits, bitsOf, recordOf}
 use Rattle.messages.specs.declared.Message.{Message}
-use Rattle.messages.specs.declared.Written.{Written}
-use Rattle.messages.specs.declared.Written.the-variants.{Next, Full, Misfit}
+use Rattle.messages.specs.declared.Recorded.{Recorded}
+use Rattle.messages.specs.declared.Recorded.the-variants.{Next, Full, Misfit}
 
 -- a record of m from place on lies in the usable log of n bytes
 abbrev pub room : ℕ → ℕ → Message → Bool
 room n place m = leb (place + bitsOf m) (usableBits n)
 
 -- room is looked at first
-unfoldable pub writtenOf : ℕ → ℕ → Message → Written
-writtenOf n place m = cond (room n place m) (cond (fits m) (Next (place + bitsOf m)) Misfit) Full
+unfoldable pub recordedOf : ℕ → ℕ → Message → Recorded
+recordedOf n place m = cond (room n place m) (cond (fits m) (Next (place + bitsOf m)) Misfit) Full
 
 -- the record is one field of the log; where the message is refused the log stays as it is
 unfoldable pub logAfter : List ℕ → ℕ → Message → List ℕ
 logAfter s place m = cond (room (length s) place m && fits m) (putField s place (bitsOf m) (recordOf m)) s
 
 -- document 01's number and the next place: 9 where the log has too few bits, 11 where the value does not fit 40
-abbrev pub toldWritten : Written → ℕ × ℕ
-toldWritten (Next place) = (0, place)
-toldWritten Full = (9, 0)
-toldWritten Misfit = (11, 0)
+abbrev pub toldRecorded : Recorded → ℕ × ℕ
+toldRecorded (Next place) = (0, place)
+toldRecorded Full = (9, 0)
+toldRecorded Misfit = (11, 0)
 
 -- the log after a list of messages, each from the place after the one before
 unfoldable pub logged : List ℕ → ℕ → List Message → List ℕ

@@ -9,7 +9,7 @@ pub use reader::LogReader;
 ghost use mathlib.Core.Path.{_≡_};
 ghost use lib.ListN.{length};
 ghost use Rattle.messages.specs.Records.{bitsOf, codedOf};
-ghost use Rattle.messages.specs.Writing.{writtenOf, logAfter};
+ghost use Rattle.messages.specs.Writing.{recordedOf, logAfter};
 ghost use Rattle.messages.specs.Reading.{decoded, entryAt};
 
 // What one node sends a neighbour: the sender, the receiver, and for a response and an update the
@@ -30,7 +30,7 @@ pub enum Coded {
 }
 
 // What writing a message answers.
-pub enum Written {
+pub enum Recorded {
     // the place after its record
     Next(usize),
     // the usable log ends before the record does
@@ -89,18 +89,18 @@ pub fn decode(number: u64) -> Message
 }
 
 // Writes the message's record from place on. Where it is refused, nothing is changed.
-pub fn write(log: &mut [u8], place: usize, message: Message) -> Written
-    ensures { λ r. ⌜ (r ≡ writtenOf (length (now (log .entry))) place message) × (now (log .exit) ≡ logAfter (now (log .entry)) place message) ⌝ }
+pub fn write(log: &mut [u8], place: usize, message: Message) -> Recorded
+    ensures { λ r. ⌜ (r ≡ recordedOf (length (now (log .entry))) place message) × (now (log .exit) ≡ logAfter (now (log .entry)) place message) ⌝ }
 {
     let width = record::width(message);
     if record::lies(log.len(), place, width) {
         if record::holds(message) {
             fields::put(log, place, width, record::number(message));
-            return Written::Next(place + width);
+            return Recorded::Next(place + width);
         }
-        return Written::Misfit;
+        return Recorded::Misfit;
     }
-    Written::Full
+    Recorded::Full
 }
 
 // What stands at place, before end.

@@ -13,7 +13,7 @@ use Rattle.fields.proofs.Bits.{length-putBit}
 use Rattle.fields.proofs.Kept.{length-kept, bytes-kept, apart-kept}
 use Rattle.fields.proofs.ReadBack.{read-back}
 use Rattle.fields.proofs.SameBits.{field-bits, same-bits}
-use Rattle.packed.specs.Parts.{Part, Fit, total, bytesFor, left, putAll, packed, Holds, Packs}
+use Rattle.packed.specs.Parts.{Part, Fit, bitsOfParts, bytesFor, left, putAll, packed, Holds, Packs}
 use Rattle.packed.specs.Promises.{Exactly-packed, Packed-bytes, Rest-kept}
 use Rattle.packed.proofs.Zeros.{zeros-at, zeros-field, past-zero}
 
@@ -29,13 +29,13 @@ unfolding putAll
 bytes-putAll s place [] h = h
 bytes-putAll s place (p ∷ ps) h = bytes-putAll (putField s place (p .width) (p .number)) (place + p .width) ps (bytes-kept s place (p .width) (p .number) h)
 
-apart-putAll : (s : List ℕ) (place : ℕ) (ps : List Part) (from w : ℕ) → (from + w ≤ place) ⊎ (place + total ps ≤ from) → field (putAll s place ps) from w ≡ field s from w
-unfolding putAll total
+apart-putAll : (s : List ℕ) (place : ℕ) (ps : List Part) (from w : ℕ) → (from + w ≤ place) ⊎ (place + bitsOfParts ps ≤ from) → field (putAll s place ps) from w ≡ field s from w
+unfolding putAll bitsOfParts
 apart-putAll s place [] from w o = refl
 apart-putAll s place (p ∷ ps) from w o =
     apart-putAll (putField s place (p .width) (p .number)) (place + p .width) ps from w
-    (⊎-elim (λ (h : from + w ≤ place). inl (omega arith)) (λ (h : place + (p .width + total ps) ≤ from). inr (omega arith)) o)
-    ∙ apart-kept s place (p .width) (p .number) from w (⊎-elim (λ h. inl h) (λ (h : place + (p .width + total ps) ≤ from). inr (omega arith)) o)
+    (⊎-elim (λ (h : from + w ≤ place). inl (omega arith)) (λ (h : place + (p .width + bitsOfParts ps) ≤ from). inr (omega arith)) o)
+    ∙ apart-kept s place (p .width) (p .number) from w (⊎-elim (λ h. inl h) (λ (h : place + (p .width + bitsOfParts ps) ≤ from). inr (omega arith)) o)
 
 -- ---- what is put into the front of a list leaves the rest
 
@@ -52,7 +52,7 @@ front-field a b place (suc w) v h =
     ∙ front-field (putBit a (place + w) (v % 2)) b place w (v / 2) (omega (arith, length-putBit a (place + w) (v % 2)))
 
 pub rest-kept : Rest-kept
-unfolding putAll total
+unfolding putAll bitsOfParts
 rest-kept a b place [] h = refl
 rest-kept a b place (p ∷ ps) h =
     ap (λ (l : List ℕ). putAll l (place + p .width) ps) (front-field a b place (p .width) (p .number) (omega arith))
@@ -60,8 +60,8 @@ rest-kept a b place (p ∷ ps) h =
 
 -- ---- the parts are there once they are written
 
-put-holds : (s : List ℕ) (place : ℕ) (ps : List Part) → Fit ps → place + total ps ≤ 8 * length s → Holds (putAll s place ps) place ps
-unfolding putAll total
+put-holds : (s : List ℕ) (place : ℕ) (ps : List Part) → Fit ps → place + bitsOfParts ps ≤ 8 * length s → Holds (putAll s place ps) place ps
+unfolding putAll bitsOfParts
 put-holds s place [] h l = tt
 put-holds s place (p ∷ ps) h l = (
   apart-putAll (putField s place (p .width) (p .number)) (place + p .width) ps place (p .width) (inl (omega arith))
@@ -71,21 +71,21 @@ put-holds s place (p ∷ ps) h l = (
 
 pub packs-packed : (ps : List Part) → Fit ps → Packs (packed ps) ps
 packs-packed ps h =
-    let z : List ℕ = replicate (bytesFor (total ps)) 0 in
-    let l : length z ≡ bytesFor (total ps) = length-replicate {A = ℕ} (bytesFor (total ps)) 0 in
+    let z : List ℕ = replicate (bytesFor (bitsOfParts ps)) 0 in
+    let l : length z ≡ bytesFor (bitsOfParts ps) = length-replicate {A = ℕ} (bytesFor (bitsOfParts ps)) 0 in
     record {
       bytes = length-putAll z 0 ps ∙ l;
       parts = put-holds z 0 ps h (omega arith);
-      filling = apart-putAll z 0 ps (total ps) (left (total ps)) (inr (omega arith)) ∙ zeros-field (bytesFor (total ps)) (total ps) (left (total ps));
+      filling = apart-putAll z 0 ps (bitsOfParts ps) (left (bitsOfParts ps)) (inr (omega arith)) ∙ zeros-field (bytesFor (bitsOfParts ps)) (bitsOfParts ps) (left (bitsOfParts ps));
     }
 
 pub packed-bytes : Packed-bytes
-packed-bytes ps = bytes-putAll (replicate (bytesFor (total ps)) 0) 0 ps (λ i. rw (zeros-at (bytesFor (total ps)) i) (omega arith))
+packed-bytes ps = bytes-putAll (replicate (bytesFor (bitsOfParts ps)) 0) 0 ps (λ i. rw (zeros-at (bytesFor (bitsOfParts ps)) i) (omega arith))
 
 -- ---- and no other bytes hold them
 
-same-parts : (s t : List ℕ) (place : ℕ) (ps : List Part) → Holds s place ps → Holds t place ps → (k : ℕ) → place ≤ k → k < place + total ps → bit s k ≡ bit t k
-unfolding total
+same-parts : (s t : List ℕ) (place : ℕ) (ps : List Part) → Holds s place ps → Holds t place ps → (k : ℕ) → place ≤ k → k < place + bitsOfParts ps → bit s k ≡ bit t k
+unfolding bitsOfParts
 same-parts s t place [] h g k a b = absurd (none k a b)
   where
     none : (k : ℕ) → place ≤ k → k < place + 0 → ⊥
@@ -99,11 +99,11 @@ same-parts s t place (p ∷ ps) h g k a b =
 
 only-one-packing : (s t : List ℕ) (ps : List Part) → Bytes s → Bytes t → Packs s ps → Packs t ps → s ≡ t
 only-one-packing s t ps b c h g =
-    same-bits s t (h .bytes ∙ sym (g .bytes)) b c (λ k. go k (decLt k (total ps)) (decLt k (8 * bytesFor (total ps))))
+    same-bits s t (h .bytes ∙ sym (g .bytes)) b c (λ k. go k (decLt k (bitsOfParts ps)) (decLt k (8 * bytesFor (bitsOfParts ps))))
   where
-    go : (k : ℕ) → Dec (k < total ps) → Dec (k < 8 * bytesFor (total ps)) → bit s k ≡ bit t k
+    go : (k : ℕ) → Dec (k < bitsOfParts ps) → Dec (k < 8 * bytesFor (bitsOfParts ps)) → bit s k ≡ bit t k
     go k (yes d) f = same-parts s t 0 ps (h .parts) (g .parts) k (omega arith) (omega arith)
-    go k (no d) (yes f) = field-bits s t (total ps) (left (total ps)) (h .filling ∙ sym (g .filling)) k (omega arith) (omega arith)
+    go k (no d) (yes f) = field-bits s t (bitsOfParts ps) (left (bitsOfParts ps)) (h .filling ∙ sym (g .filling)) k (omega arith) (omega arith)
     go k (no d) (no f) = past-zero s k (omega (arith, h .bytes)) ∙ sym (past-zero t k (omega (arith, g .bytes)))
 
 pub exactly-packed : Exactly-packed

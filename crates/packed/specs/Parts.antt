@@ -19,9 +19,9 @@ Fit [] = Unit
 Fit (p ∷ ps) = (p .number < 2 ^ p .width) × Fit ps
 
 -- how many bits they take, and how many bytes that is
-unfoldable pub total : List Part → ℕ
-total [] = 0
-total (p ∷ ps) = p .width + total ps
+unfoldable pub bitsOfParts : List Part → ℕ
+bitsOfParts [] = 0
+bitsOfParts (p ∷ ps) = p .width + bitsOfParts ps
 
 abbrev pub bytesFor : ℕ → ℕ
 bytesFor bits = (bits + 7) / 8
@@ -37,7 +37,7 @@ putAll s place (p ∷ ps) = putAll (putField s place (p .width) (p .number)) (pl
 
 -- the parts as bytes
 abbrev pub packed : List Part → List ℕ
-packed ps = putAll (replicate (bytesFor (total ps)) 0) 0 ps
+packed ps = putAll (replicate (bytesFor (bitsOfParts ps)) 0) 0 ps
 
 -- the fields from place on hold the parts
 abbrev pub Holds : List ℕ → ℕ → List Part → Type 0
@@ -46,9 +46,9 @@ Holds s place (p ∷ ps) = (field s place (p .width) ≡ p .number) × Holds s (
 
 -- the bytes s are the parts, filled with zero bits to the byte, and no byte more
 pub record Packs (s : List ℕ) (ps : List Part) : Type 0 where
-  pub bytes : length s ≡ bytesFor (total ps)
+  pub bytes : length s ≡ bytesFor (bitsOfParts ps)
   pub parts : Holds s 0 ps
-  pub filling : field s (total ps) (left (total ps)) ≡ 0
+  pub filling : field s (bitsOfParts ps) (left (bitsOfParts ps)) ≡ 0
 
 -- the bytes s end at place: no byte is left over, and no filling bit is set
 unfoldable pub ends : List ℕ → ℕ → Bool

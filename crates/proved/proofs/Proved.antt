@@ -25,7 +25,7 @@ use Rattle.packed.specs.Parts.{ends}
 use Rattle.requests.specs.Reading as lists
 use Rattle.session.specs.Holding.{pairAt}
 use Rattle.session.specs.Soundness.{inLimits, sound}
-use Rattle.table.specs.Layout.{long, place}
+use Rattle.table.specs.Layout.{long, parentPlace}
 use Rattle.table.specs.Reading.{nodesFault, refusalOf, parentsOf, readingOf}
 use Rattle.tree.specs.Every.{every}
 use Rattle.tree.specs.Parents.{entryInRule, inRule}
@@ -35,11 +35,11 @@ use Rattle.tree.specs.Turns.{turn, joined}
 use Rattle.proved.specs.Proved.{replies, end, grown, empty, held, outcome, path-list, star, path, path-in-one-call, cases, All-hold}
 
 star-holds : outcome (star .input) ≡ star .output
-unfolding leadingZeros weight digit patch bit putBit field putField signed kindOf widthOf recordOf messageOf messageAt entryOf entryAt logAfter ends long place nodesFault refusalOf parentsOf readingOf lists.requestAt lists.nextPlace lists.placeOf lists.requestsFrom lists.combinesTo lists.refusalOf lists.judgedOf replies end servedOf logOf logged messagesFrom running.done running.runs running.listRefusal running.ranOf running.answersOf running.runLogOf heard stepIf sofar ask total sends spread hit cell put applied each upRaised downRaised raised combines writes afterCombine afterWrite refusals.allFit refusals.refusalOf bitsOfAll pairAt inLimits sound every entryInRule inRule inRange climb below turn joined
+unfolding leadingZeros weight digit patch bit putBit field putField signed kindOf widthOf recordOf messageOf messageAt entryOf entryAt logAfter ends long parentPlace nodesFault refusalOf parentsOf readingOf lists.requestAt lists.nextPlace lists.placeOf lists.requestsFrom lists.combinesTo lists.refusalOf lists.judgedOf replies end servedOf logOf logged messagesFrom running.done running.runs running.listRefusal running.ranOf running.answersOf running.runLogOf heard stepIf sofar ask total sends spread hit cell put applied each upRaised downRaised raised combines writes afterCombine afterWrite refusals.allFit refusals.refusalOf bitsOfAll pairAt inLimits sound every entryInRule inRule inRange climb below turn joined
 star-holds = refl
 
 path-holds : outcome (path .input) ≡ path .output
-unfolding leadingZeros weight digit patch bit putBit field putField signed kindOf widthOf recordOf messageOf messageAt entryOf entryAt logAfter ends long place nodesFault refusalOf parentsOf readingOf lists.requestAt lists.nextPlace lists.placeOf lists.requestsFrom lists.combinesTo lists.refusalOf lists.judgedOf replies end servedOf logOf logged messagesFrom running.done running.runs running.listRefusal running.ranOf running.answersOf running.runLogOf heard stepIf sofar ask total sends spread hit cell put applied each upRaised downRaised raised combines writes afterCombine afterWrite refusals.allFit refusals.refusalOf bitsOfAll pairAt inLimits sound every entryInRule inRule inRange climb below turn joined
+unfolding leadingZeros weight digit patch bit putBit field putField signed kindOf widthOf recordOf messageOf messageAt entryOf entryAt logAfter ends long parentPlace nodesFault refusalOf parentsOf readingOf lists.requestAt lists.nextPlace lists.placeOf lists.requestsFrom lists.combinesTo lists.refusalOf lists.judgedOf replies end servedOf logOf logged messagesFrom running.done running.runs running.listRefusal running.ranOf running.answersOf running.runLogOf heard stepIf sofar ask total sends spread hit cell put applied each upRaised downRaised raised combines writes afterCombine afterWrite refusals.allFit refusals.refusalOf bitsOfAll pairAt inLimits sound every entryInRule inRule inRange climb below turn joined
 path-holds = refl
 
 -- ---- the path's list in one call
@@ -51,23 +51,23 @@ abbrev ended : Ran
 ended = running.ranOf three path-list (replicate 3 (pos 0)) (empty 86) 0
 
 refusal-is : ended .refusal ≡ 0
-unfolding leadingZeros weight digit patch bit putBit field putField signed kindOf widthOf recordOf messageOf messageAt entryOf entryAt logAfter ends long place nodesFault refusalOf parentsOf readingOf lists.requestAt lists.nextPlace lists.placeOf lists.requestsFrom lists.combinesTo lists.refusalOf lists.judgedOf replies end servedOf logOf logged messagesFrom running.done running.runs running.listRefusal running.ranOf running.answersOf running.runLogOf heard stepIf sofar ask total sends spread hit cell put applied each upRaised downRaised raised combines writes afterCombine afterWrite refusals.allFit refusals.refusalOf bitsOfAll pairAt inLimits sound every entryInRule inRule inRange climb below turn joined
+unfolding leadingZeros weight digit patch bit putBit field putField signed kindOf widthOf recordOf messageOf messageAt entryOf entryAt logAfter ends long parentPlace nodesFault refusalOf parentsOf readingOf lists.requestAt lists.nextPlace lists.placeOf lists.requestsFrom lists.combinesTo lists.refusalOf lists.judgedOf replies end servedOf logOf logged messagesFrom running.done running.runs running.listRefusal running.ranOf running.answersOf running.runLogOf heard stepIf sofar ask total sends spread hit cell put applied each upRaised downRaised raised combines writes afterCombine afterWrite refusals.allFit refusals.refusalOf bitsOfAll pairAt inLimits sound every entryInRule inRule inRange climb below turn joined
 refusal-is = refl
 
 index-is : ended .index ≡ 0
-unfolding leadingZeros weight digit patch bit putBit field putField signed kindOf widthOf recordOf messageOf messageAt entryOf entryAt logAfter ends long place nodesFault refusalOf parentsOf readingOf lists.requestAt lists.nextPlace lists.placeOf lists.requestsFrom lists.combinesTo lists.refusalOf lists.judgedOf replies end servedOf logOf logged messagesFrom running.done running.runs running.listRefusal running.ranOf running.answersOf running.runLogOf heard stepIf sofar ask total sends spread hit cell put applied each upRaised downRaised raised combines writes afterCombine afterWrite refusals.allFit refusals.refusalOf bitsOfAll pairAt inLimits sound every entryInRule inRule inRange climb below turn joined
+unfolding leadingZeros weight digit patch bit putBit field putField signed kindOf widthOf recordOf messageOf messageAt entryOf entryAt logAfter ends long parentPlace nodesFault refusalOf parentsOf readingOf lists.requestAt lists.nextPlace lists.placeOf lists.requestsFrom lists.combinesTo lists.refusalOf lists.judgedOf replies end servedOf logOf logged messagesFrom running.done running.runs running.listRefusal running.ranOf running.answersOf running.runLogOf heard stepIf sofar ask total sends spread hit cell put applied each upRaised downRaised raised combines writes afterCombine afterWrite refusals.allFit refusals.refusalOf bitsOfAll pairAt inLimits sound every entryInRule inRule inRange climb below turn joined
 index-is = refl
 
 totals-are : ended .totals ≡ record { requests = 6; answers = 3; messages = 16; next = 688 }
-unfolding leadingZeros weight digit patch bit putBit field putField signed kindOf widthOf recordOf messageOf messageAt entryOf entryAt logAfter ends long place nodesFault refusalOf parentsOf readingOf lists.requestAt lists.nextPlace lists.placeOf lists.requestsFrom lists.combinesTo lists.refusalOf lists.judgedOf replies end servedOf logOf logged messagesFrom running.done running.runs running.listRefusal running.ranOf running.answersOf running.runLogOf heard stepIf sofar ask total sends spread hit cell put applied each upRaised downRaised raised combines writes afterCombine afterWrite refusals.allFit refusals.refusalOf bitsOfAll pairAt inLimits sound every entryInRule inRule inRange climb below turn joined
+unfolding leadingZeros weight digit patch bit putBit field putField signed kindOf widthOf recordOf messageOf messageAt entryOf entryAt logAfter ends long parentPlace nodesFault refusalOf parentsOf readingOf lists.requestAt lists.nextPlace lists.placeOf lists.requestsFrom lists.combinesTo lists.refusalOf lists.judgedOf replies end servedOf logOf logged messagesFrom running.done running.runs running.listRefusal running.ranOf running.answersOf running.runLogOf heard stepIf sofar ask total sends spread hit cell put applied each upRaised downRaised raised combines writes afterCombine afterWrite refusals.allFit refusals.refusalOf bitsOfAll pairAt inLimits sound every entryInRule inRule inRange climb below turn joined
 totals-are = refl
 
 answers-are : running.answersOf three path-list (replicate 3 (pos 0)) (empty 86) 0 ≡ pos 0 ∷ pos 5 ∷ pos 9 ∷ []
-unfolding leadingZeros weight digit patch bit putBit field putField signed kindOf widthOf recordOf messageOf messageAt entryOf entryAt logAfter ends long place nodesFault refusalOf parentsOf readingOf lists.requestAt lists.nextPlace lists.placeOf lists.requestsFrom lists.combinesTo lists.refusalOf lists.judgedOf replies end servedOf logOf logged messagesFrom running.done running.runs running.listRefusal running.ranOf running.answersOf running.runLogOf heard stepIf sofar ask total sends spread hit cell put applied each upRaised downRaised raised combines writes afterCombine afterWrite refusals.allFit refusals.refusalOf bitsOfAll pairAt inLimits sound every entryInRule inRule inRange climb below turn joined
+unfolding leadingZeros weight digit patch bit putBit field putField signed kindOf widthOf recordOf messageOf messageAt entryOf entryAt logAfter ends long parentPlace nodesFault refusalOf parentsOf readingOf lists.requestAt lists.nextPlace lists.placeOf lists.requestsFrom lists.combinesTo lists.refusalOf lists.judgedOf replies end servedOf logOf logged messagesFrom running.done running.runs running.listRefusal running.ranOf running.answersOf running.runLogOf heard stepIf sofar ask total sends spread hit cell put applied each upRaised downRaised raised combines writes afterCombine afterWrite refusals.allFit refusals.refusalOf bitsOfAll pairAt inLimits sound every entryInRule inRule inRange climb below turn joined
 answers-are = refl
 
 held-is : held (ended .session) ≡ record { up-leases = 0 ∷ 2 ∷ 2 ∷ []; up-messages = 0 ∷ 8 ∷ 8 ∷ []; down-leases = 0 ∷ 0 ∷ 0 ∷ []; down-messages = 0 ∷ 0 ∷ 0 ∷ [] }
-unfolding leadingZeros weight digit patch bit putBit field putField signed kindOf widthOf recordOf messageOf messageAt entryOf entryAt logAfter ends long place nodesFault refusalOf parentsOf readingOf lists.requestAt lists.nextPlace lists.placeOf lists.requestsFrom lists.combinesTo lists.refusalOf lists.judgedOf replies end servedOf logOf logged messagesFrom running.done running.runs running.listRefusal running.ranOf running.answersOf running.runLogOf heard stepIf sofar ask total sends spread hit cell put applied each upRaised downRaised raised combines writes afterCombine afterWrite refusals.allFit refusals.refusalOf bitsOfAll pairAt inLimits sound every entryInRule inRule inRange climb below turn joined
+unfolding leadingZeros weight digit patch bit putBit field putField signed kindOf widthOf recordOf messageOf messageAt entryOf entryAt logAfter ends long parentPlace nodesFault refusalOf parentsOf readingOf lists.requestAt lists.nextPlace lists.placeOf lists.requestsFrom lists.combinesTo lists.refusalOf lists.judgedOf replies end servedOf logOf logged messagesFrom running.done running.runs running.listRefusal running.ranOf running.answersOf running.runLogOf heard stepIf sofar ask total sends spread hit cell put applied each upRaised downRaised raised combines writes afterCombine afterWrite refusals.allFit refusals.refusalOf bitsOfAll pairAt inLimits sound every entryInRule inRule inRange climb below turn joined
 held-is = refl
 
 

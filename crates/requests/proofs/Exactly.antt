@@ -4,7 +4,7 @@ use mathlib.Core.List.{List, [], _∷_}
 use Prim.Native.Nat.{ℕ, _≤_}
 use native.Mathlib.Omega.{arith}
 use lib.ListN.{length}
-use Rattle.packed.specs.Parts.{Fit, total, Packs}
+use Rattle.packed.specs.Parts.{Fit, bitsOfParts, Packs}
 use Rattle.packed.proofs.Packing.{exactly-packed}
 use Rattle.requests.specs.Lists.{AllSized, partsOf, listParts}
 use Rattle.requests.specs.Format.{Counted, Ruled, whole}
@@ -12,7 +12,7 @@ use Rattle.requests.specs.Promises.{List-exactly}
 use Rattle.requests.specs.Reading.{countAt, placeOf, requestsFrom, requestsOf}
 use Rattle.requests.specs.declared.Request.{Request}
 use Rattle.requests.proofs.OneField.{sized-fits}
-use Rattle.requests.proofs.Refusals.{ruled-exactly, accepted}
+use Rattle.requests.proofs.Refusals.{list-ruled-exactly, accepted}
 use Rattle.requests.proofs.Runs.{Run, length-from, run, run-back}
 
 all-fit : (rs : List Request) → AllSized rs → Fit (partsOf rs)
@@ -26,8 +26,8 @@ module _ (s : List ℕ) (rs : List Request) where
     unfolding placeOf
     read = rw e at (run s 0 n n (omega arith))
 
-    stops : total (listParts rs) ≡ placeOf s n
-    unfolding placeOf total
+    stops : bitsOfParts (listParts rs) ≡ placeOf s n
+    unfolding placeOf bitsOfParts
     stops = read .stop
 
   packs : Ruled s 0 → requestsOf s ≡ rs → Packs s (listParts rs)
@@ -43,7 +43,7 @@ module _ (s : List ℕ) (rs : List Request) where
       }
 
   reads : AllSized rs → length rs ≤ 4096 → Packs s (listParts rs) → Ruled s 0 × (requestsOf s ≡ rs)
-  unfolding total
+  unfolding bitsOfParts
   reads h l p =
       let e = run-back s 13 rs h (p .parts .1) in
       let t = stops (length rs) e in
@@ -54,6 +54,6 @@ module _ (s : List ℕ) (rs : List Request) where
 pub list-exactly : List-exactly
 list-exactly s rs b h l =
     let x = exactly-packed s (listParts rs) b (omega arith, all-fit rs h) in (
-      λ p. x .0 (packs s rs (ruled-exactly s 0 .0 (p .0)) (p .1)),
-      λ e. let r = reads s rs h l (x .1 e) in (ruled-exactly s 0 .1 (r .0), r .1),
+      λ p. x .0 (packs s rs (list-ruled-exactly s 0 .0 (p .0)) (p .1)),
+      λ e. let r = reads s rs h l (x .1 e) in (list-ruled-exactly s 0 .1 (r .0), r .1),
     )

@@ -12,7 +12,7 @@ use Rattle.requests.specs.Format.{Counted, Ruled, no-count, bad-count, n
 use Rattle.requests.specs.Promises.{List-first-bytes}
 use Rattle.requests.specs.Reading.{countAt, placeOf, judgedOf}
 use Rattle.requests.proofs.Places.{place-most}
-use Rattle.requests.proofs.Refusals.{ruled-exactly, judged-refused}
+use Rattle.requests.proofs.Refusals.{list-ruled-exactly, judged-refused}
 
 -- up to 4,096 requests end in the first 20,994 bytes
 place-few : (s : List ℕ) (k : ℕ) → k ≤ 4096 → placeOf s k ≤ 167949
@@ -44,4 +44,4 @@ list-first-bytes s = go (decLe (length s) 20995)
     go (no l) =
         let r : ℕ = judgedOf s .refusal in
         let kept = length-take-le 20995 s (omega arith) in
-        same-judged s (take 20995 s) (omega arith) (omega (arith, kept)) (read-of-first 20995 s 0 13 (omega arith)) r (ruled-exactly s r .0 refl)
+        same-judged s (take 20995 s) (omega arith) (omega (arith, kept)) (read-of-first 20995 s 0 13 (omega arith)) r (list-ruled-exactly s r .0 refl)

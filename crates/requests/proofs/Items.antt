@@ -8,7 +8,7 @@ use lib.Dec.{leb}
 use lib.ListN.{length}
 use borrow.Author.Tests.{le-leb, lt-leb, leb-true, leb-false}
 use Rattle.fields.specs.Usable.{usableBits}
-use Rattle.requests.specs.Promises.{Item-exactly, Short-exactly}
+use Rattle.requests.specs.Promises.{Item-exactly, Item-short-exactly}
 use Rattle.requests.specs.Reading.{requestAt, nextPlace, itemAt, told}
 use Rattle.requests.specs.declared.Request.{Request}
 use Rattle.requests.specs.declared.Item.the-variants.{Found, Short}
@@ -37,9 +37,9 @@ item-exactly s place next r = (
         (leb-true _ _ p, sym (ap (λ (t : Request × ℕ). t .0) q), sym (ap (λ (t : Request × ℕ). t .1) q))
     go false p e = absurd (suc-ne-zero 0 (ap (λ (t : ℕ × List (Request × ℕ)). t .0) e))
 
-pub short-exactly : Short-exactly
+pub item-short-exactly : Item-short-exactly
 unfolding itemAt
-short-exactly s place = (
+item-short-exactly s place = (
   λ e. go (leb (nextPlace s place) (usableBits (length s))) refl e,
   λ h. ap told (item-cut s place h),
 )

@@ -25,7 +25,7 @@ pub record Stands (s : List ℕ) (place : ℕ) (r : Request) : Type 0 where
 
 -- a request's number has room in its field
 pub sized-fits : (r : Request) → Sized r → partOf r .number < 2 ^ partOf r .width
-sized-fits (Combine node) h = omega arith
+sized-fits (Combine node) h = omega (arith, h .0)
 sized-fits (Write node value) h = omega (arith, twos-lt 32 (omega arith) value (ltb-true _ _ (h .1)))
 
 module _ (s : List ℕ) (place : ℕ) where
@@ -42,7 +42,7 @@ module _ (s : List ℕ) (place : ℕ) where
       go : (b : Bool) → isCombine s place ≡ b → Stands s place (cond b (Combine (field s (place + 1) 8)) (Write (field s (place + 1) 8) (signed 32 (field s (place + 9) 32))))
       go true e =
           let k : field s place 1 ≡ 0 = eqb-true _ _ e in
-          record { sized = field-lt s (place + 1) 8; holds = omega (arith, head); ends-at = after-combine s place k }
+          record { sized = (field-lt s (place + 1) 8, tt); holds = omega (arith, head); ends-at = after-combine s place k }
       go false e =
           let n : field s place 1 ≡ 0 → ⊥ = eqb-false (field s place 1) 0 e in
           let k : field s place 1 ≡ 1 = omega (arith, field-lt s place 1) in
@@ -57,8 +57,8 @@ module _ (s : List ℕ) (place : ℕ) where
   pub read-as : (r : Request) → Sized r → field s place (partOf r .width) ≡ partOf r .number → requestAt s place ≡ r
   unfolding requestAt
   read-as (Combine node) h e =
-      let k : field s place 1 ≡ 0 = omega (arith, head, field-lt s (place + 1) 8) in
-      let m : field s (place + 1) 8 ≡ node = omega (arith, head, field-lt s (place + 1) 8) in
+      let k : field s place 1 ≡ 0 = omega (arith, h .0, head, field-lt s (place + 1) 8) in
+      let m : field s (place + 1) 8 ≡ node = omega (arith, h .0, head, field-lt s (place + 1) 8) in
       rw (eq-eqb (field s place 1) 0 k, m)
   read-as (Write node value) h e =
       let size : mag value < 2 ^ 31 = ltb-true _ _ (h .1) in

@@ -12,7 +12,7 @@ use Rattle.fields.specs.Usable.{usableBits}
 use Rattle.packed.specs.Parts.{bytesFor, left, ends}
 use Rattle.packed.proofs.Filling.{ends-exactly, left-over-exactly}
 use Rattle.requests.specs.Format.{Counted, Ruled, no-count, bad-count, no-request, left-over, whole}
-use Rattle.requests.specs.Promises.{Ruled-exactly, Refused-with-zeros}
+use Rattle.requests.specs.Promises.{List-ruled-exactly, List-refused-with-zeros}
 use Rattle.requests.specs.Reading.{countAt, placeOf, combinesTo, endFault, refusalOf, refused, verdict, judgedOf}
 use Rattle.requests.proofs.Places.{place-most, place-up}
 
@@ -93,8 +93,8 @@ module _ (s : List ℕ) where
   unfolding judgedOf
   judged-whole h = rw (ruled-once h)
 
-pub ruled-exactly : Ruled-exactly
-ruled-exactly s r = (
+pub list-ruled-exactly : List-ruled-exactly
+list-ruled-exactly s r = (
   λ e. subst (Ruled s) (sym (ruled-once s (has-rule s .1)) ∙ sym (answered s) ∙ e) (has-rule s .1),
   λ h. answered s ∙ ruled-once s h,
 )
@@ -103,9 +103,9 @@ ruled-exactly s r = (
 pub accepted : (s : List ℕ) → Ruled s 0 → Counted s (countAt s) × (length s ≡ bytesFor (placeOf s (countAt s))) × (field s (placeOf s (countAt s)) (left (placeOf s (countAt s))) ≡ 0)
 accepted s (whole n g b f) = rw (← g .count) (g, b, f)
 
-pub refused-with-zeros : Refused-with-zeros
+pub list-refused-with-zeros : List-refused-with-zeros
 unfolding judgedOf
-refused-with-zeros s h = go (refusalOf s) h
+list-refused-with-zeros s h = go (refusalOf s) h
   where
     go : (r : ℕ) → 0 < verdict r (countAt s) (combinesTo s (countAt s)) .refusal → verdict r (countAt s) (combinesTo s (countAt s)) ≡ refused (verdict r (countAt s) (combinesTo s (countAt s)) .refusal)
     go zero l = absurd (omega arith)

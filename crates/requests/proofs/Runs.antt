@@ -5,14 +5,14 @@ use Prim.Native.Nat.{ℕ, zero, suc, _+_}
 use native.Mathlib.Nat.{add-zero}
 use native.Mathlib.Omega.{arith}
 use lib.ListN.{length}
-use Rattle.packed.specs.Parts.{total, Holds}
+use Rattle.packed.specs.Parts.{bitsOfParts, Holds}
 use Rattle.requests.specs.Lists.{AllSized, partOf, partsOf, combinesIn}
 use Rattle.requests.specs.Promises.{Counts-right, Read-sized}
 use Rattle.requests.specs.Reading.{nextPlace, countAt, placeOf, requestsFrom, combinesTo}
 use Rattle.requests.specs.declared.Request.{Request}
 use Rattle.requests.specs.declared.Judged.{Judged}
 use Rattle.requests.proofs.OneField.{stands, read-as}
-use Rattle.requests.proofs.Refusals.{ruled-exactly, judged-whole}
+use Rattle.requests.proofs.Refusals.{list-ruled-exactly, judged-whole}
 
 module _ (s : List ℕ) where
   pub length-from : (place k : ℕ) → length (requestsFrom s place k) ≡ k
@@ -27,12 +27,12 @@ module _ (s : List ℕ) where
 
   -- from request j on, up to request n
   pub record Run (j n : ℕ) (rs : List Request) : Type 0 where
-    pub stop : placeOf s j + total (partsOf rs) ≡ placeOf s n
+    pub stop : placeOf s j + bitsOfParts (partsOf rs) ≡ placeOf s n
     pub sum : combinesTo s j + combinesIn rs ≡ combinesTo s n
     pub holds : Holds s (placeOf s j) (partsOf rs)
 
   pub run : (j k n : ℕ) → j + k ≡ n → Run j n (requestsFrom s (placeOf s j) k)
-  unfolding requestsFrom placeOf combinesTo combinesIn total
+  unfolding requestsFrom placeOf combinesTo combinesIn bitsOfParts
   run j zero n e =
       let d : j ≡ n = omega arith in
       record { stop = add-zero (placeOf s j) ∙ ap (placeOf s) d; sum = add-zero (combinesTo s j) ∙ ap (combinesTo s) d; holds = tt }
@@ -62,7 +62,7 @@ pub counts-right : Counts-right
 unfolding placeOf combinesTo
 counts-right s e =
     let n : ℕ = countAt s in
-    let w = judged-whole s (ruled-exactly s 0 .0 e) in
+    let w = judged-whole s (list-ruled-exactly s 0 .0 e) in
     let r = run s 0 n n (omega arith) in (
       ap (λ (j : Judged). j .requests) w ∙ sym (length-from s 13 n),
       ap (λ (j : Judged). j .combines) w ∙ omega (arith, r .sum),

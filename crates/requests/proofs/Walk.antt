@@ -18,7 +18,7 @@ use Rattle.requests.specs.declared.Request.{Request}
 use Rattle.requests.specs.declared.Request.the-variants.{Combine, Write}
 use Rattle.requests.specs.declared.Item.the-variants.{Found, Short}
 use Rattle.requests.proofs.Places.{place-next, place-most}
-use Rattle.requests.proofs.Items.{item-exactly, short-exactly}
+use Rattle.requests.proofs.Items.{item-exactly, item-short-exactly}
 use Rattle.requests.proofs.Refusals.{usable, judged-refused, judged-whole}
 
 -- ---- the count
@@ -68,15 +68,15 @@ module _ (s : List ℕ) (n : ℕ) (g : Counted s n) where
       pub went-on : (r : Request) (next more : ℕ) → itemAt s place ≡ Found r next → more ≡ combines + oneIfCombine r → Went s n next more (k + 1)
       went-on r next more e m =
           let f = item-exactly s place next r .0 (ap told e) in
-          rw (add-one k) (record { turns = omega arith; here = f .2 ∙ next-place; inside = omega (arith, f .0, f .2); sum = m ∙ total (f .1) })
+          rw (add-one k) (record { turns = omega arith; here = f .2 ∙ next-place; inside = omega (arith, f .0, f .2); sum = m ∙ bitsOfParts (f .1) })
         where
-          total : r ≡ requestAt s place → combines + oneIfCombine r ≡ combinesTo s (suc k)
-          total e = unfold combinesTo in rw (e, w .sum, w .here)
+          bitsOfParts : r ≡ requestAt s place → combines + oneIfCombine r ≡ combinesTo s (suc k)
+          bitsOfParts e = unfold combinesTo in rw (e, w .sum, w .here)
 
       pub went-short : (number : ℕ) → itemAt s place ≡ Short → number ≡ 1 → judgedOf s ≡ refused number
       went-short number e one =
           rw one (judged-refused s
-          (no-request n k g l (omega (arith, w .here, w .inside)) (omega (arith, short-exactly s place .0 (ap told e), next-place, place-most s (suc k), g .few))))
+          (no-request n k g l (omega (arith, w .here, w .inside)) (omega (arith, item-short-exactly s place .0 (ap told e), next-place, place-most s (suc k), g .few))))
 
     -- all are read, and the end is looked for at that place
     module _ (l : n ≤ k) (end : ℕ) (here : end ≡ place) where

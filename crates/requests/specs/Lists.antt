@@ -9,10 +9,19 @@ use Rattle.packed.specs.Parts.{Part, packed}
 use Rattle.requests.specs.declared.Request.{Request}
 use Rattle.requests.specs.declared.Request.the-variants.{Combine, Write}
 
--- the node is a byte, and the value fits 32 bits
+-- the node that a request is at
+abbrev pub nodeOf : Request → ℕ
+nodeOf (Combine node) = node
+nodeOf (Write node value) = node
+
+-- what is written fits 32 bits
+abbrev pub Small : Request → Type 0
+Small (Combine node) = Unit
+Small (Write node value) = within 32 value ≡ true
+
+-- and the node is a byte
 abbrev pub Sized : Request → Type 0
-Sized (Combine node) = node < 256
-Sized (Write node value) = (node < 256) × (within 32 value ≡ true)
+Sized r = (nodeOf r < 256) × Small r
 
 abbrev pub AllSized : List Request → Type 0
 AllSized [] = Unit

@@ -12,12 +12,12 @@ use Rattle.requests.specs.Reading.{requestAt, nextPlace, itemAt, told, H
 use Rattle.requests.specs.declared.Request.{Request}
 
 -- The reader refuses a list exactly as the format says,
-abbrev pub Ruled-exactly : Type 0
-Ruled-exactly = (s : List ℕ) (r : ℕ) → (judgedOf s .refusal ≡ r) ↔ Ruled s r
+abbrev pub List-ruled-exactly : Type 0
+List-ruled-exactly = (s : List ℕ) (r : ℕ) → (judgedOf s .refusal ≡ r) ↔ Ruled s r
 
 -- and answers zeros where it refuses.
-abbrev pub Refused-with-zeros : Type 0
-Refused-with-zeros = (s : List ℕ) → 0 < judgedOf s .refusal → judgedOf s ≡ refused (judgedOf s .refusal)
+abbrev pub List-refused-with-zeros : Type 0
+List-refused-with-zeros = (s : List ℕ) → 0 < judgedOf s .refusal → judgedOf s ≡ refused (judgedOf s .refusal)
 
 -- A longer input is judged as its first 20,995 bytes: the longest list has 20,994, and one byte more is enough to tell that bytes are left over.
 abbrev pub List-first-bytes : Type 0
@@ -44,8 +44,8 @@ abbrev pub Item-exactly : Type 0
 Item-exactly = (s : List ℕ) (place next : ℕ) (r : Request) → (told (itemAt s place) ≡ (0, (r, next) ∷ [])) ↔ ((nextPlace s place ≤ usableBits (length s)) × (r ≡ requestAt s place) × (next ≡ nextPlace s place))
 
 -- and 1 is answered exactly everywhere else.
-abbrev pub Short-exactly : Type 0
-Short-exactly = (s : List ℕ) (place : ℕ) → (told (itemAt s place) ≡ (1, [])) ↔ (usableBits (length s) < nextPlace s place)
+abbrev pub Item-short-exactly : Type 0
+Item-short-exactly = (s : List ℕ) (place : ℕ) → (told (itemAt s place) ≡ (1, [])) ↔ (usableBits (length s) < nextPlace s place)
 
 -- The requests of an accepted list are handed out one behind the other, from its first place on.
 abbrev pub Handed-out : Type 0

@@ -12,7 +12,7 @@ use borrow.Author.Tests.{leb-true, le-leb, eqb-true, eq-eqb}
 use Rattle.tree.specs.Ranges.{inRange}
 use Rattle.tree.proofs.Every.{from-at, from-of, used-at, unused-at, places-of}
 use Rattle.session.specs.Soundness.{Unused, inLimits, zeroAt}
-use Rattle.session.specs.Passes.{numbers, caches, values}
+use Rattle.session.specs.inner.Passes.{numbers, caches, values}
 use Rattle.session.specs.declared.Pairs.{Pairs}
 use Rattle.session.proofs.Limits.{only-zero, zero-in, limits-parts, limits-of}
 

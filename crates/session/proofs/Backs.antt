@@ -8,13 +8,13 @@ use lib.ListN.{length, take}
 use Rattle.tree.specs.Parents.{inRule}
 use Rattle.tree.proofs.Cases.{lt-or-le}
 use Rattle.tree.proofs.InRule.{in-rule-exactly}
-use Rattle.table.specs.Layout.{size}
+use Rattle.table.specs.Layout.{tableSize}
 use Rattle.table.specs.Reading.{treeOf}
 use Rattle.table.specs.Writing as table
 use Rattle.table.specs.declared.Written.{Written}
 use Rattle.table.proofs.RoundTrip as table-laws
-use Rattle.table.proofs.Verdicts.{ruled-exactly, reading-accepted}
-use Rattle.session.specs.Promises.{Written-exactly, Loaded-writes-back, Written-loads-back, Refused-output-kept}
+use Rattle.table.proofs.Verdicts.{table-ruled-exactly, reading-accepted}
+use Rattle.session.specs.Promises.{Session-written-exactly, Loaded-writes-back, Written-loads-back, Session-output-kept}
 use Rattle.session.specs.Soundness.{sound}
 use Rattle.session.specs.Starting.{freshOf, loadedOf}
 use Rattle.session.specs.Tables.{Answered, six, nine, done, writtenOf, outputOf}
@@ -50,7 +50,7 @@ module _ (s : Session) (room : ℕ) where
   in-rule e = in-rule-exactly (s .tree .parents) (s .tree .count) .1 (sound-exactly 2 s .0 e .tree-in-rule)
 
   of-tree : (w : Written) → sound 2 s ≡ true → table.Answered (s .tree) room w → writtenOf s room ≡ w
-  of-tree w e a = sound-written s e room ∙ table-laws.written-exactly (s .tree) room w .1 a
+  of-tree w e a = sound-written s e room ∙ table-laws.table-written-exactly (s .tree) room w .1 a
 
   is : (w : Written) → Answered s room w → writtenOf s room ≡ w
   is w (six e) = unsound-written s e room
@@ -62,19 +62,19 @@ module _ (s : Session) (room : ℕ) where
     where
       go : (b : Bool) → sound 2 s ≡ b → Answered s room (writtenOf s room)
       go false e = rw (unsound-written s e room) (six e)
-      go true e = lt-or-le room (size (s .tree .count))
+      go true e = lt-or-le room (tableSize (s .tree .count))
           (λ l. rw (of-tree _ e (table.nine (in-rule e) l)) (nine e l))
           (λ l. rw (of-tree _ e (table.done (in-rule e) l)) (done e l))
 
-pub written-exactly : Written-exactly
-written-exactly s room w = (λ e. subst (Answered s room) e (answered s room), is s room w)
+pub session-written-exactly : Session-written-exactly
+session-written-exactly s room w = (λ e. subst (Answered s room) e (answered s room), is s room w)
 
 -- ---- the two ways round
 
 -- a table that was loaded was read without refusal
 pub loaded-writes-back : Loaded-writes-back
 loaded-writes-back s bytes out b e l =
-    let a = reading-accepted bytes (ruled-exactly bytes 0 .0 (read-well s bytes e)) in
+    let a = reading-accepted bytes (table-ruled-exactly bytes 0 .0 (read-well s bytes e)) in
     let q = load-accepts s bytes (treeOf bytes) a in
     let f = sound-holds 2 (freshOf (treeOf bytes)) (fresh-sound 2 (treeOf bytes) (q .1)) in
     let w = table-laws.table-writes-back bytes (treeOf bytes) out b a l in
@@ -89,8 +89,8 @@ written-loads-back s o out typed z = go (sound 2 s) refl
         (load-accepts o _ (s .tree) (table-laws.table-reads-back (s .tree) out (typed .parents-long) (rw (sound-written s e (length out)) at z)) .0)
     go false e = let six : _≡_ {A = ℕ} 6 0 = rw (unsound-written s e (length out)) at z in absurd (omega arith)
 
-pub refused-output-kept : Refused-output-kept
-refused-output-kept s out h = go (sound 2 s) refl
+pub session-output-kept : Session-output-kept
+session-output-kept s out h = go (sound 2 s) refl
   where
     go : (b : Bool) → sound 2 s ≡ b → outputOf s out ≡ out
     go true e = sound-output s e out ∙ table-laws.refused-output-kept (s .tree) out (rw (sound-written s e (length out)) at h)

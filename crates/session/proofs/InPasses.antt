@@ -19,7 +19,7 @@ use Rattle.tree.proofs.InRule.{in-rule-exactly}
 use Rattle.tree.proofs.Listed.{sizes-read}
 use Rattle.tree.proofs.Sizes.{sizes-add, size-below}
 use Rattle.session.specs.Holding.{leaseOf, cacheOf, sentOf}
-use Rattle.session.specs.Passes.{pairs, values, ordered}
+use Rattle.session.specs.inner.Passes.{pairs, values, ordered}
 use Rattle.session.specs.Soundness.{limit, Sound, inLimits, sound}
 use Rattle.session.specs.declared.Session.{Session}
 use Rattle.session.proofs.Indices.{pair-up, pair-down, to-child, to-parent, by-child}

@@ -13,7 +13,7 @@ use lib.Seq.{getD-set-same, getD-set-other}
 use borrow.Author.Tests.{le-leb, lt-leb}
 use Rattle.tree.specs.Parents.{parent}
 use Rattle.tree.proofs.Cases.{either, order}
-use Rattle.session.specs.Passes.{fromChildren, highs, lows, orderedAt}
+use Rattle.session.specs.inner.Passes.{fromChildren, highs, lows, orderedAt}
 
 -- ---- the turns, as the loop makes them
 

@@ -12,7 +12,8 @@ use mir.Syntax.{Width, w64}
 use mir.Val.{SFits, toZ, ofZ}
 use mir.Facts.{toZ-ofZ}
 use Rattle.tree.specs.Ranges.{inRange}
-use Rattle.tree.specs.Every.{every, from}
+use Rattle.tree.specs.inner.Places.{from}
+use Rattle.tree.specs.Every.{every}
 use Rattle.tree.proofs.Every.{from-more, same-test}
 use Rattle.session.specs.Soundness.{inLimits}
 

@@ -15,7 +15,7 @@ use Rattle.tree.proofs.Cases.{order, lt-or-le}
 use Rattle.tree.proofs.Every.{every-at, every-of}
 use Rattle.session.specs.Holding.{pairAt}
 use Rattle.session.specs.Soundness.{Ordered}
-use Rattle.session.specs.Passes.{highs, lows, orderedAt, ordered}
+use Rattle.session.specs.inner.Passes.{highs, lows, orderedAt, ordered}
 use Rattle.session.proofs.Indices.{pair-up, pair-down, one-is-child, to-child, to-parent}
 use Rattle.session.proofs.Keeping.{AtLeast, by-max, by-min, kept-start, kept-child, kept-best}
 

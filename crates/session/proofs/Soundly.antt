@@ -14,7 +14,7 @@ use Rattle.tree.proofs.Cases.{lt-or-le}
 use Rattle.tree.proofs.Every.{every-at, every-of}
 use Rattle.tree.proofs.InRule.{in-rule-exactly}
 use Rattle.session.specs.Holding.{valueOf, leaseOf, cacheOf, sentOf}
-use Rattle.session.specs.Passes.{values}
+use Rattle.session.specs.inner.Passes.{values}
 use Rattle.session.specs.Promises.{Sound-exactly}
 use Rattle.session.specs.Soundness.{limit, Sound, everyPair, everyTwo, inLimits, zeroAt, noPair, sound}
 use Rattle.session.specs.declared.Session.{Session}

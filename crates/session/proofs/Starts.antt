@@ -17,9 +17,9 @@ use Rattle.tree.proofs.Cases.{either}
 use Rattle.tree.proofs.InRule.{in-rule-exactly}
 use Rattle.table.specs.Reading.{readingOf}
 use Rattle.table.proofs.Tables.{accepted-rule}
-use Rattle.table.proofs.Verdicts.{ruled-exactly, reading-accepted}
+use Rattle.table.proofs.Verdicts.{table-ruled-exactly, reading-accepted}
 use Rattle.session.specs.Holding.{pairAt}
-use Rattle.session.specs.Promises.{Fresh-sound, Fresh-exactly, Refused-with-zeros, Load-refuses, Load-accepts}
+use Rattle.session.specs.Promises.{Fresh-sound, Fresh-exactly, Fresh-refused-with-zeros, Load-refuses, Load-accepts}
 use Rattle.session.specs.Soundness.{Unused}
 use Rattle.session.specs.Starting.{empty, freshOf, zeros, startedOf, loadedOf}
 use Rattle.session.specs.declared.Session.{Session}
@@ -75,8 +75,8 @@ fresh-exactly t = (λ e. in-rule-exactly (t .parents) (t .count) .0 (go (inRule 
     go true p e = p
     go false p e = let six : _≡_ {A = ℕ} 6 0 = rw (not-started t p) at e in absurd (omega arith)
 
-pub refused-with-zeros : Refused-with-zeros
-refused-with-zeros t h = go (inRule (t .parents) (t .count)) refl
+pub fresh-refused-with-zeros : Fresh-refused-with-zeros
+fresh-refused-with-zeros t h = go (inRule (t .parents) (t .count)) refl
   where
     go : (b : Bool) → inRule (t .parents) (t .count) ≡ b → startedOf t ≡ record { refusal = 6; session = zeros }
     go true p = let none : 0 < 0 = rw (started t (in-rule-exactly (t .parents) (t .count) .0 p)) at h in absurd (not-suc-le-zero none)
@@ -86,7 +86,7 @@ refused-with-zeros t h = go (inRule (t .parents) (t .count)) refl
 
 module _ (s : Session) (bytes : List ℕ) where
   read-rule : readingOf bytes .refusal ≡ 0 → InRule (readingOf bytes .tree .parents) (readingOf bytes .tree .count)
-  read-rule e = let j = ruled-exactly bytes 0 .0 e in rw (reading-accepted bytes j) (accepted-rule bytes j)
+  read-rule e = let j = table-ruled-exactly bytes 0 .0 e in rw (reading-accepted bytes j) (accepted-rule bytes j)
 
   pub loads : readingOf bytes .refusal ≡ 0 → loadedOf s bytes ≡ startedOf (readingOf bytes .tree)
   unfolding loadedOf

@@ -2,7 +2,7 @@
 pub mod Holding
 pub mod Parts
 pub mod Soundness
-pub mod Passes
 pub mod Starting
 pub mod Tables
+pub mod inner
 pub mod Promises

@@ -28,8 +28,8 @@ Fresh-sound = (b : ℕ) (t : Tree) → InRule (t .parents) (t .count) → Sound 
 abbrev pub Fresh-exactly : Type 0
 Fresh-exactly = (t : Tree) → (startedOf t .refusal ≡ 0) ↔ InRule (t .parents) (t .count)
 
-abbrev pub Refused-with-zeros : Type 0
-Refused-with-zeros = (t : Tree) → 0 < startedOf t .refusal → startedOf t ≡ record { refusal = 6; session = zeros }
+abbrev pub Fresh-refused-with-zeros : Type 0
+Fresh-refused-with-zeros = (t : Tree) → 0 < startedOf t .refusal → startedOf t ≡ record { refusal = 6; session = zeros }
 
 -- Loading refuses as the table's reader does, and then leaves the session it would replace;
 abbrev pub Load-refuses : Type 0
@@ -50,9 +50,9 @@ Written-loads-back = (s o : Session) (out : List ℕ) → Typed s → writtenOf 
     → loadedOf o (take (writtenOf s (length out) .bytes) (outputOf s out)) ≡ record { refusal = 0; session = freshOf (s .tree) }
 
 -- The table writer refuses exactly as document 01 says,
-abbrev pub Written-exactly : Type 0
-Written-exactly = (s : Session) (room : ℕ) (w : Written) → (writtenOf s room ≡ w) ↔ Answered s room w
+abbrev pub Session-written-exactly : Type 0
+Session-written-exactly = (s : Session) (room : ℕ) (w : Written) → (writtenOf s room ≡ w) ↔ Answered s room w
 
 -- and changes nothing where it refuses.
-abbrev pub Refused-output-kept : Type 0
-Refused-output-kept = (s : Session) (out : List ℕ) → 0 < writtenOf s (length out) .refusal → outputOf s out ≡ out
+abbrev pub Session-output-kept : Type 0
+Session-output-kept = (s : Session) (out : List ℕ) → 0 < writtenOf s (length out) .refusal → outputOf s out ≡ out

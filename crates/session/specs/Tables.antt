@@ -3,7 +3,7 @@ use mathlib.Core.Path.{_≡_}
 use mathlib.Core.Bool.{true, false, cond}
 use mathlib.Core.List.{List}
 use Prim.Native.Nat.{ℕ, _≤_, _<_}
-use Rattle.table.specs.Layout.{size}
+use Rattle.table.specs.Layout.{tableSize}
 use Rattle.table.specs.Writing as table
 use Rattle.table.specs.declared.Written.{Written}
 use Rattle.session.specs.Soundness.{sound}
@@ -12,8 +12,8 @@ use Rattle.session.specs.declared.Session.{Session}
 -- what it answers with room for so many bytes
 pub data Answered (s : Session) (room : ℕ) : Written → Type 0 where
   six : sound 2 s ≡ false → Answered s room (record { refusal = 6; bytes = 0 })
-  nine : sound 2 s ≡ true → room < size (s .tree .count) → Answered s room (record { refusal = 9; bytes = 0 })
-  done : sound 2 s ≡ true → size (s .tree .count) ≤ room → Answered s room (record { refusal = 0; bytes = size (s .tree .count) })
+  nine : sound 2 s ≡ true → room < tableSize (s .tree .count) → Answered s room (record { refusal = 9; bytes = 0 })
+  done : sound 2 s ≡ true → tableSize (s .tree .count) ≤ room → Answered s room (record { refusal = 0; bytes = tableSize (s .tree .count) })
 
 -- the same as a computation: a sound session's tree is in rule, so its table is refused with 9 alone
 unfoldable pub writtenOf : Session → ℕ → Written

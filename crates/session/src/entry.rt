@@ -4,9 +4,10 @@ ghost use Prim.Native.Nat.{_-_, _≤_};
 ghost use lib.Dec.{eqb, leb};
 ghost use lib.IntN.{pos};
 ghost use lib.ListN.{getD};
-ghost use Rattle.tree.specs.Every.{every, from};
+ghost use Rattle.tree.specs.inner.Places.{from};
+ghost use Rattle.tree.specs.Every.{every};
 ghost use Rattle.tree.specs.Ranges.{inRange};
-ghost use Rattle.session.specs.Passes as pass;
+ghost use Rattle.session.specs.inner.Passes as pass;
 use rule::Rule;
 
 // The entries of all pairs of one direction: from child to parent, or from parent to child (down). Each

@@ -2,7 +2,7 @@
 ghost use mathlib.Core.Path.{_≡_};
 ghost use Prim.Native.Nat.{min, max, _≤_, _<_};
 ghost use lib.ListN.{length};
-ghost use Rattle.session.specs.Passes as pass;
+ghost use Rattle.session.specs.inner.Passes as pass;
 
 // For each node the largest number of a pair out of it and the smallest of a pair into it, of the
 // neighbours passed so far, are kept. No pair leads into the root from a parent: there the start is a

@@ -9,15 +9,15 @@ use lib.Seq.{length-take-le, take-all}
 use Rattle.fields.specs.Fields.{field}
 use Rattle.fields.proofs.FirstBytes.{read-of-first}
 use Rattle.tree.proofs.Cases.{lt-or-le}
-use Rattle.table.specs.Layout.{place, long, countAt, parentAt}
-use Rattle.table.specs.Format.{Counted, RightTo, Ruled, no-count, bad-count, no-parent, bad-parent, left-over, whole}
+use Rattle.table.specs.Layout.{parentPlace, long, countAt, parentAt}
+use Rattle.table.specs.Format.{Counted, GoodParents, Ruled, no-count, bad-count, no-parent, bad-parent, left-over, whole}
 use Rattle.table.specs.Reading.{readingOf}
 use Rattle.table.specs.Promises.{Table-first-bytes}
 use Rattle.table.proofs.Widths.{place-suc, place-last, place-up}
-use Rattle.table.proofs.Verdicts.{ruled-exactly, reading-refused}
+use Rattle.table.proofs.Verdicts.{table-ruled-exactly, reading-refused}
 
 -- the fields of up to 256 nodes end in the first 225 bytes
-place-few : (k : ℕ) → k ≤ 255 → place k ≤ 1794
+place-few : (k : ℕ) → k ≤ 255 → parentPlace k ≤ 1794
 place-few k h = omega (arith, place-up k 255 h, place-last)
 
 -- two byte lists that are longer, and have the same fields in their first 226 bytes, have the same fault
@@ -26,12 +26,12 @@ module _ (s t : List ℕ) (ls : 226 ≤ length s) (lt : 226 ≤ length t) (same 
   same-count = same 0 9 (omega arith)
 
   same-parent : (k : ℕ) → k < 255 → parentAt t k ≡ parentAt s k
-  same-parent k h = same (place k) (long k) (omega (arith, place-suc k, place-few (suc k) h))
+  same-parent k h = same (parentPlace k) (long k) (omega (arith, place-suc k, place-few (suc k) h))
 
   counted : (n : ℕ) → Counted s n → Counted t n
   counted n c = record { there = omega (arith, lt); count = c .count ∙ sym same-count; some = c .some; few = c .few }
 
-  right : (k : ℕ) → k ≤ 255 → RightTo s k → RightTo t k
+  right : (k : ℕ) → k ≤ 255 → GoodParents s k → GoodParents t k
   right k h f j l = record { there = omega (arith, lt, place-few (suc j) (omega arith)); smaller = rw (same-parent j (omega arith)) (f j l .smaller) }
 
   -- they are not whole: that would be 225 bytes at most
@@ -58,5 +58,5 @@ table-first-bytes s = lt-or-le 226 (length s)
     (λ l.
     let r : ℕ = readingOf s .refusal in
     let kept = length-take-le 226 s (omega arith) in
-    same-reading s (take 226 s) (omega arith) (omega (arith, kept)) (read-of-first 226 s) r (ruled-exactly s r .0 refl))
+    same-reading s (take 226 s) (omega arith) (omega (arith, kept)) (read-of-first 226 s) r (table-ruled-exactly s r .0 refl))
     (λ l. ap readingOf (take-all 226 s l))

@@ -14,13 +14,13 @@ use Rattle.packed.proofs.Packing.{packs-packed, packed-bytes, exactly-packed}
 use Rattle.tree.specs.Parents.{InRule, inRule}
 use Rattle.tree.specs.declared.Tree.{Tree}
 use Rattle.tree.proofs.InRule.{in-rule-exactly}
-use Rattle.table.specs.Layout.{size, countAt}
+use Rattle.table.specs.Layout.{tableSize, countAt}
 use Rattle.table.specs.Reading.{accepted, treeOf, readingOf}
 use Rattle.table.specs.Writing.{tableParts, tableOf, Answered, six, nine, done, writtenOf, outputOf}
-use Rattle.table.specs.Promises.{Table-exactly, Table-reads-back, Table-writes-back, Written-exactly, Refused-output-kept}
+use Rattle.table.specs.Promises.{Table-exactly, Table-reads-back, Table-writes-back, Table-written-exactly, Refused-output-kept}
 use Rattle.table.specs.declared.Reading.{Reading}
 use Rattle.table.specs.declared.Written.{Written}
-use Rattle.table.proofs.Verdicts.{ruled-exactly, reading-accepted}
+use Rattle.table.proofs.Verdicts.{table-ruled-exactly, reading-accepted}
 use Rattle.table.proofs.Stores.{table-end}
 use Rattle.table.proofs.Tables.{table-fits, parents-length, accepted-rule, accepted-packs, packed-ruled, packed-tree}
 
@@ -33,7 +33,7 @@ record Reads (s : List ℕ) (t : Tree) : Type 0 where
 
 reads : (s : List ℕ) (t : Tree) → readingOf s ≡ accepted t → Reads s t
 reads s t e =
-    let j = ruled-exactly s 0 .0 (ap (λ (r : Reading). r .refusal) e) in
+    let j = table-ruled-exactly s 0 .0 (ap (λ (r : Reading). r .refusal) e) in
     let same : treeOf s ≡ t = ap (λ (r : Reading). r .tree) (sym (reading-accepted s j) ∙ e) in
     let r : Reads s (treeOf s) = record { rule = accepted-rule s j; packs = accepted-packs s j; wide = parents-length s (countAt s - 1) } in
     rw same at r
@@ -53,38 +53,38 @@ table-exactly s t b wide = (
 
 answered : (t : Tree) (room : ℕ) → Answered t room (writtenOf t room)
 unfolding writtenOf
-answered t room = go (inRule (t .parents) (t .count)) refl (leb (size (t .count)) room) refl
+answered t room = go (inRule (t .parents) (t .count)) refl (leb (tableSize (t .count)) room) refl
   where
-    go : (a : Bool) → inRule (t .parents) (t .count) ≡ a → (b : Bool) → leb (size (t .count)) room ≡ b
-        → Answered t room (cond a (cond b (record { refusal = 0; bytes = size (t .count) }) (record { refusal = 9; bytes = 0 })) (record { refusal = 6; bytes = 0 }))
+    go : (a : Bool) → inRule (t .parents) (t .count) ≡ a → (b : Bool) → leb (tableSize (t .count)) room ≡ b
+        → Answered t room (cond a (cond b (record { refusal = 0; bytes = tableSize (t .count) }) (record { refusal = 9; bytes = 0 })) (record { refusal = 6; bytes = 0 }))
     go false p b q = six p
     go true p false q = nine p (leb-false _ _ q)
     go true p true q = done p (leb-true _ _ q)
 
-pub written-exactly : Written-exactly
-written-exactly t room w = (λ e. subst (Answered t room) e (answered t room), λ a. is w a)
+pub table-written-exactly : Table-written-exactly
+table-written-exactly t room w = (λ e. subst (Answered t room) e (answered t room), λ a. is w a)
   where
     is : (w : Written) → Answered t room w → writtenOf t room ≡ w
     is w (six p) = unfold writtenOf in rw p
-    is w (nine p l) = unfold writtenOf in rw (p, lt-leb (size (t .count)) room l)
-    is w (done p l) = unfold writtenOf in rw (p, le-leb (size (t .count)) room l)
+    is w (nine p l) = unfold writtenOf in rw (p, lt-leb (tableSize (t .count)) room l)
+    is w (done p l) = unfold writtenOf in rw (p, le-leb (tableSize (t .count)) room l)
 
 -- what it leaves
-output-done : (t : Tree) (out : List ℕ) → inRule (t .parents) (t .count) ≡ true → size (t .count) ≤ length out → outputOf t out ≡ tableOf t ++ drop (size (t .count)) out
+output-done : (t : Tree) (out : List ℕ) → inRule (t .parents) (t .count) ≡ true → tableSize (t .count) ≤ length out → outputOf t out ≡ tableOf t ++ drop (tableSize (t .count)) out
 unfolding outputOf
-output-done t out p l = rw (p, le-leb (size (t .count)) (length out) l)
+output-done t out p l = rw (p, le-leb (tableSize (t .count)) (length out) l)
 
 pub refused-output-kept : Refused-output-kept
 refused-output-kept t out h = go (writtenOf t (length out)) (answered t (length out)) h
   where
     go : (w : Written) → Answered t (length out) w → 0 < w .refusal → outputOf t out ≡ out
     go w (six p) l = unfold outputOf in rw p
-    go w (nine p m) l = unfold outputOf in rw (p, lt-leb (size (t .count)) (length out) m)
+    go w (nine p m) l = unfold outputOf in rw (p, lt-leb (tableSize (t .count)) (length out) m)
     go w (done p m) l = absurd (not-suc-le-zero l)
 
 -- ---- the two ways round
 
-table-length : (t : Tree) → InRule (t .parents) (t .count) → length (tableOf t) ≡ size (t .count)
+table-length : (t : Tree) → InRule (t .parents) (t .count) → length (tableOf t) ≡ tableSize (t .count)
 table-length t r = packs-packed (tableParts t) (table-fits t r) .bytes ∙ ap bytesFor (table-end t)
 
 pub table-reads-back : Table-reads-back
@@ -94,13 +94,13 @@ table-reads-back t out wide e = go (writtenOf t (length out)) (answered t (lengt
     go w (six p) z = absurd (omega arith)
     go w (nine p l) z = absurd (omega arith)
     go w (done p l) z =
-        rw (output-done t out p l, take-at (tableOf t) (drop (size (t .count)) out) (size (t .count)) (table-length t (in-rule-exactly (t .parents) (t .count) .0 p)))
+        rw (output-done t out p l, take-at (tableOf t) (drop (tableSize (t .count)) out) (tableSize (t .count)) (table-length t (in-rule-exactly (t .parents) (t .count) .0 p)))
         (table-exactly (tableOf t) t (packed-bytes (tableParts t)) wide .1 (p, refl))
 
 pub table-writes-back : Table-writes-back
 table-writes-back s t out b e l =
     let h = reads s t e in
     let q = table-exactly s t b (h .wide) .0 e in
-    let n : length s ≡ size (t .count) = ap length (q .1) ∙ table-length t (h .rule) in
-    let m : size (t .count) ≤ length out = rw n at l in
-    (rw n (written-exactly t (length out) _ .1 (done (q .0) m)), rw n (output-done t out (q .0) m ∙ ap (λ (x : List ℕ). x ++ drop (size (t .count)) out) (sym (q .1))))
+    let n : length s ≡ tableSize (t .count) = ap length (q .1) ∙ table-length t (h .rule) in
+    let m : tableSize (t .count) ≤ length out = rw n at l in
+    (rw n (table-written-exactly t (length out) _ .1 (done (q .0) m)), rw n (output-done t out (q .0) m ∙ ap (λ (x : List ℕ). x ++ drop (tableSize (t .count)) out) (sym (q .1))))

@@ -12,12 +12,12 @@ use Rattle.fields.specs.Fields.{putField}
 use Rattle.fields.specs.Usable.{putAt}
 use Rattle.fields.proofs.Kept.{length-kept}
 use Rattle.fields.proofs.Rooms.{taken-is-put}
-use Rattle.packed.specs.Parts.{total, putAll}
+use Rattle.packed.specs.Parts.{bitsOfParts, putAll}
 use Rattle.packed.proofs.Packing.{front-field, rest-kept}
 use Rattle.tree.specs.Parents.{parent, Grown, InRule, inRule}
 use Rattle.tree.specs.declared.Tree.{Tree}
 use Rattle.tree.proofs.InRule.{in-rule-exactly}
-use Rattle.table.specs.Layout.{long, place, size}
+use Rattle.table.specs.Layout.{long, parentPlace, tableSize}
 use Rattle.table.specs.Writing.{nodeParts, tableParts, tableOf, writtenOf, outputOf}
 use Rattle.table.proofs.Widths.{width-exactly, long-le, place-zero, place-suc, place-le, place-up}
 
@@ -42,7 +42,7 @@ one-cleared out₀ out i h d = record { is = rw (d .is, add-one i) (clear-turn o
 
 pub record Stored (out₀ ps : List ℕ) (n : ℕ) (out : List ℕ) (at k : ℕ) : Type 0 where
   pub left : k < n
-  pub here : at ≡ place k
+  pub here : at ≡ parentPlace k
   pub rest : putAll out at (nodeParts ps k (n - 1 - k)) ≡ putAll out₀ 9 (nodeParts ps 0 (n - 1))
   pub same : length out ≡ length out₀
 
@@ -67,7 +67,7 @@ module _ (out₀ ps : List ℕ) (n : ℕ) (some : 1 ≤ n) (few : n ≤ 256) whe
       pub store-near : at + w ≤ 524288
       store-near = omega (arith, long-le k (omega arith), place-le k (omega arith), i .here)
 
-      pub one-stored : Grown ps n → place (n - 1) ≤ 8 * length out₀ → (p : ℕ) → p ≡ parent ps (k + 1) → (out′ : List ℕ) → out′ ≡ putAt out at w p
+      pub one-stored : Grown ps n → parentPlace (n - 1) ≤ 8 * length out₀ → (p : ℕ) → p ≡ parent ps (k + 1) → (out′ : List ℕ) → out′ ≡ putAt out at w p
           → Stored out₀ ps n out′ (at + w) (k + 1)
       one-stored grown room p q out′ f =
           rw (add-one k)
@@ -94,16 +94,16 @@ module _ (out₀ ps : List ℕ) (n : ℕ) (some : 1 ≤ n) (few : n ≤ 256) whe
 
 -- ---- where the fields end
 
-nodes-end : (ps : List ℕ) (k m : ℕ) → place k + total (nodeParts ps k m) ≡ place (k + m)
-unfolding total nodeParts
+nodes-end : (ps : List ℕ) (k m : ℕ) → parentPlace k + bitsOfParts (nodeParts ps k m) ≡ parentPlace (k + m)
+unfolding bitsOfParts nodeParts
 nodes-end ps k zero = simp add-zero refl
-nodes-end ps k (suc m) = omega (arith, nodes-end ps (suc k) m, place-suc k, ap place {x = suc k + m} {y = k + suc m} (omega arith))
+nodes-end ps k (suc m) = omega (arith, nodes-end ps (suc k) m, place-suc k, ap parentPlace {x = suc k + m} {y = k + suc m} (omega arith))
 
-nodes-total : (t : Tree) → 9 + total (nodeParts (t .parents) 0 (t .count - 1)) ≡ place (t .count - 1)
-nodes-total t = omega (arith, nodes-end (t .parents) 0 (t .count - 1), place-zero, ap place (zero-add (t .count - 1)))
+nodes-total : (t : Tree) → 9 + bitsOfParts (nodeParts (t .parents) 0 (t .count - 1)) ≡ parentPlace (t .count - 1)
+nodes-total t = omega (arith, nodes-end (t .parents) 0 (t .count - 1), place-zero, ap parentPlace (zero-add (t .count - 1)))
 
-pub table-end : (t : Tree) → total (tableParts t) ≡ place (t .count - 1)
-unfolding total
+pub table-end : (t : Tree) → bitsOfParts (tableParts t) ≡ parentPlace (t .count - 1)
+unfolding bitsOfParts
 table-end t = nodes-total t
 
 -- ---- the whole
@@ -113,7 +113,7 @@ module _ (t : Tree) (out : List ℕ) where
   unfolding writtenOf outputOf
   out-of-rule e = (rw e, rw e)
 
-  module _ (e : inRule (t .parents) (t .count) ≡ true) (b : ℕ) (eb : b ≡ size (t .count)) where
+  module _ (e : inRule (t .parents) (t .count) ≡ true) (b : ℕ) (eb : b ≡ tableSize (t .count)) where
     rule : InRule (t .parents) (t .count)
     rule = in-rule-exactly (t .parents) (t .count) .0 e
 
@@ -129,7 +129,7 @@ module _ (t : Tree) (out : List ℕ) where
       wide : length zeros ≡ b
       wide = length-replicate {A = ℕ} b 0
 
-      head : 9 ≤ place (t .count - 1)
+      head : 9 ≤ parentPlace (t .count - 1)
       head = omega (arith, place-up 0 (t .count - 1) (omega arith), place-zero)
 
       joined : length (zeros ++ drop b out) ≡ b + length (drop b out)
@@ -142,7 +142,7 @@ module _ (t : Tree) (out : List ℕ) where
           ∙ taken-is-put (zeros ++ drop b out) 0 9 (t .count) (omega arith) (omega (arith, joined, head)) (omega (arith, rule .few))
           ∙ front-field zeros (drop b out) 0 9 (t .count) (omega (arith, wide, head))
 
-      pub room : place (t .count - 1) ≤ 8 * length out₂
+      pub room : parentPlace (t .count - 1) ≤ 8 * length out₂
       room = omega (arith, ap length counted ∙ length-append (putField zeros 0 9 (t .count)) (drop b out), length-kept zeros 0 9 (t .count), wide)
 
       pub written : (out₃ : List ℕ) → out₃ ≡ putAll out₂ 9 (nodeParts (t .parents) 0 (t .count - 1))

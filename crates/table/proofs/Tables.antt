@@ -12,8 +12,8 @@ use Rattle.packed.proofs.Zeros.{zeros-at}
 use Rattle.tree.specs.Parents.{parent, InRule}
 use Rattle.tree.specs.declared.Tree.{Tree}
 use Rattle.tree.proofs.Cases.{order, lt-or-le}
-use Rattle.table.specs.Layout.{place, size, countAt, parentAt}
-use Rattle.table.specs.Format.{Counted, RightTo, filling, Ruled, no-count, bad-count, no-parent, bad-parent, left-over, whole}
+use Rattle.table.specs.Layout.{parentPlace, tableSize, countAt, parentAt}
+use Rattle.table.specs.Format.{Counted, GoodParents, filling, Ruled, no-count, bad-count, no-parent, bad-parent, left-over, whole}
 use Rattle.table.specs.Reading.{parentsOf, treeOf}
 use Rattle.table.specs.Writing.{nodeParts, tableParts}
 use Rattle.table.proofs.Widths.{width-exactly, place-zero, place-suc, place-up}
@@ -21,12 +21,12 @@ use Rattle.table.proofs.Stores.{table-end}
 
 -- ---- the parent fields of m nodes from node k + 1 on
 
-nodes-hold : (s ps : List ℕ) (k m : ℕ) → ((j : ℕ) → k ≤ j → j < k + m → parentAt s j ≡ parent ps (suc j)) → Holds s (place k) (nodeParts ps k m)
+nodes-hold : (s ps : List ℕ) (k m : ℕ) → ((j : ℕ) → k ≤ j → j < k + m → parentAt s j ≡ parent ps (suc j)) → Holds s (parentPlace k) (nodeParts ps k m)
 unfolding nodeParts
 nodes-hold s ps k zero f = tt
 nodes-hold s ps k (suc m) f = (f k (omega arith) (omega arith), rw place-suc at (nodes-hold s ps (suc k) m (λ j a b. f j (omega arith) (omega arith))))
 
-node-held : (s ps : List ℕ) (k m : ℕ) → Holds s (place k) (nodeParts ps k m) → (j : ℕ) → k ≤ j → j < k + m → parentAt s j ≡ parent ps (suc j)
+node-held : (s ps : List ℕ) (k m : ℕ) → Holds s (parentPlace k) (nodeParts ps k m) → (j : ℕ) → k ≤ j → j < k + m → parentAt s j ≡ parent ps (suc j)
 unfolding nodeParts
 node-held s ps k zero h j a b = absurd (none j a b)
   where
@@ -72,8 +72,8 @@ parents-unused s (suc k) i o =
 
 record Accepted (s : List ℕ) (n : ℕ) : Type 0 where
   counted : Counted s n
-  right : RightTo s (n - 1)
-  bytes : length s ≡ size n
+  right : GoodParents s (n - 1)
+  bytes : length s ≡ tableSize n
   filled : filling s n ≡ 0
 
 accepted-by : (s : List ℕ) (r : ℕ) → Ruled s r → r ≡ 0 → Accepted s (countAt s)
@@ -113,7 +113,7 @@ module _ (s : List ℕ) (j : Ruled s 0) where
 -- ---- and what a tree in rule packs is accepted
 
 module _ (s : List ℕ) (t : Tree) (r : InRule (t .parents) (t .count)) (h : Packs s (tableParts t)) where
-  bytes : length s ≡ size (t .count)
+  bytes : length s ≡ tableSize (t .count)
   bytes = h .bytes ∙ ap bytesFor (table-end t)
 
   held : (k : ℕ) → k + 1 < t .count → parentAt s k ≡ parent (t .parents) (suc k)

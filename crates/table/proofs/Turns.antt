@@ -12,8 +12,8 @@ use Rattle.fields.specs.Usable.{fieldAt}
 use Rattle.fields.specs.declared.Field.the-variants.{Value, Short}
 use Rattle.fields.proofs.Rooms.{found, cut-off}
 use Rattle.packed.specs.Parts.{ends}
-use Rattle.table.specs.Layout.{long, place, parentAt}
-use Rattle.table.specs.Format.{Counted, RightTo, no-count, bad-count, no-parent, bad-parent}
+use Rattle.table.specs.Layout.{long, parentPlace, parentAt}
+use Rattle.table.specs.Format.{Counted, GoodParents, no-count, bad-count, no-parent, bad-parent}
 use Rattle.table.specs.Reading.{parentsOf, refused, readingOf}
 use Rattle.table.proofs.Widths.{long-le, place-zero, place-suc, place-le}
 use Rattle.table.proofs.Verdicts.{right-none, right-more, ruled-end, reading-refused, reading-accepted}
@@ -21,8 +21,8 @@ use Rattle.table.proofs.Verdicts.{right-none, right-more, ruled-end, re
 -- nodes 1 to k are read and right
 pub record Standing (s : List ℕ) (n : ℕ) (ps : List ℕ) (at k : ℕ) : Type 0 where
   pub left : k < n
-  pub here : at ≡ place k
-  pub right : RightTo s k
+  pub here : at ≡ parentPlace k
+  pub right : GoodParents s k
   pub list : ps ≡ parentsOf s k
 
 module _ (s : List ℕ) (n : ℕ) (c : Counted s n) where
@@ -36,7 +36,7 @@ module _ (s : List ℕ) (n : ℕ) (c : Counted s n) where
       pub near : at + w ≤ 524288
       near = omega (arith, long-le k (omega (arith, c .few)), place-le k (omega (arith, c .few)), i .here)
 
-      after : place (suc k) ≡ at + w
+      after : parentPlace (suc k) ≡ at + w
       after = omega (arith, place-suc k, i .here)
 
       pub parent-cut : fieldAt s at w ≡ Short → readingOf s ≡ refused 1
@@ -44,7 +44,7 @@ module _ (s : List ℕ) (n : ℕ) (c : Counted s n) where
           reading-refused s 0 (no-parent n k c (i .right) l (omega (arith, after, near, cut-off s at w (omega (arith, long-le k (omega (arith, c .few)))) f)))
 
       module _ (p : ℕ) (f : fieldAt s at w ≡ Value p) where
-        there : place (suc k) ≤ 8 * length s
+        there : parentPlace (suc k) ≤ 8 * length s
         there = omega (arith, after, found s at w p f .1)
 
         is : p ≡ parentAt s k
@@ -71,11 +71,11 @@ module _ (s : List ℕ) (n : ℕ) (c : Counted s n) where
       last : k ≡ n - 1
       last = omega (arith, i .left)
 
-      all : RightTo s (n - 1)
+      all : GoodParents s (n - 1)
       all = rw last at (i .right)
 
-      stops : at ≡ place (n - 1)
-      stops = i .here ∙ ap place last
+      stops : at ≡ parentPlace (n - 1)
+      stops = i .here ∙ ap parentPlace last
 
       pub end-wrong : ends s at ≡ false → readingOf s ≡ refused 4
       end-wrong f = reading-refused s 3 (ruled-end s n c false (rw stops at f) all)

@@ -6,7 +6,7 @@ use Prim.Native.Nat.{ℕ, suc, _+_, _-_, _*_, _≤_, _<_}
 use lib.ListN.{length}
 use Rattle.fields.specs.Fields.{field}
 use Rattle.packed.specs.Parts.{left}
-use Rattle.table.specs.Layout.{place, size, countAt, parentAt}
+use Rattle.table.specs.Layout.{parentPlace, tableSize, countAt, parentAt}
 
 -- the count is there, and it is 1 to 256
 pub record Counted (s : List ℕ) (n : ℕ) : Type 0 where
@@ -16,17 +16,17 @@ pub record Counted (s : List ℕ) (n : ℕ) : Type 0 where
   pub few : n ≤ 256
 
 -- the parent field of node k + 1 is there, and the parent is smaller than the node
-pub record Right (s : List ℕ) (k : ℕ) : Type 0 where
-  pub there : place (suc k) ≤ 8 * length s
+pub record GoodParent (s : List ℕ) (k : ℕ) : Type 0 where
+  pub there : parentPlace (suc k) ≤ 8 * length s
   pub smaller : parentAt s k < suc k
 
 -- the same of nodes 1 to k
-abbrev pub RightTo : List ℕ → ℕ → Type 0
-RightTo s k = (j : ℕ) → j < k → Right s j
+abbrev pub GoodParents : List ℕ → ℕ → Type 0
+GoodParents s k = (j : ℕ) → j < k → GoodParent s j
 
 -- the filling bits behind the fields of n nodes
 abbrev pub filling : List ℕ → ℕ → ℕ
-filling s n = field s (place (n - 1)) (left (place (n - 1)))
+filling s n = field s (parentPlace (n - 1)) (left (parentPlace (n - 1)))
 
 -- The fields are judged in their order, the first fault decides, and 4 comes last. 0 is no refusal.
 pub data Ruled (s : List ℕ) : ℕ → Type 0 where
@@ -35,9 +35,9 @@ pub data Ruled (s : List ℕ) : ℕ → Type 0 where
   -- the count is 0 or above 256
   bad-count : 9 ≤ 8 * length s → (countAt s ≡ 0) ⊎ (256 < countAt s) → Ruled s 2
   -- the table ends before the parent of node k + 1
-  no-parent : (n k : ℕ) → Counted s n → RightTo s k → k + 1 < n → 8 * length s < place (suc k) → Ruled s 1
+  no-parent : (n k : ℕ) → Counted s n → GoodParents s k → k + 1 < n → 8 * length s < parentPlace (suc k) → Ruled s 1
   -- the parent of node k + 1 is not smaller than the node
-  bad-parent : (n k : ℕ) → Counted s n → RightTo s k → k + 1 < n → place (suc k) ≤ 8 * length s → suc k ≤ parentAt s k → Ruled s 3
+  bad-parent : (n k : ℕ) → Counted s n → GoodParents s k → k + 1 < n → parentPlace (suc k) ≤ 8 * length s → suc k ≤ parentAt s k → Ruled s 3
   -- bytes are left over, or a filling bit is set
-  left-over : (n : ℕ) → Counted s n → RightTo s (n - 1) → (size n < length s) ⊎ (0 < filling s n) → Ruled s 4
-  whole : (n : ℕ) → Counted s n → RightTo s (n - 1) → length s ≡ size n → filling s n ≡ 0 → Ruled s 0
+  left-over : (n : ℕ) → Counted s n → GoodParents s (n - 1) → (tableSize n < length s) ⊎ (0 < filling s n) → Ruled s 4
+  whole : (n : ℕ) → Counted s n → GoodParents s (n - 1) → length s ≡ tableSize n → filling s n ≡ 0 → Ruled s 0

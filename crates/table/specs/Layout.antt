@@ -9,18 +9,18 @@ use Rattle.packed.specs.Parts.{bytesFor}
 unfoldable pub long : ℕ → ℕ
 long k = 64 - leadingZeros 64 k
 
--- where the parent of node k + 1 begins; place (n - 1) is where the fields of n nodes end
-unfoldable pub place : ℕ → ℕ
-place zero = 9
-place (suc k) = place k + long k
+-- where the parent of node k + 1 begins; parentPlace (n - 1) is where the fields of n nodes end
+unfoldable pub parentPlace : ℕ → ℕ
+parentPlace zero = 9
+parentPlace (suc k) = parentPlace k + long k
 
 -- how many bytes the table of n nodes takes
-abbrev pub size : ℕ → ℕ
-size n = bytesFor (place (n - 1))
+abbrev pub tableSize : ℕ → ℕ
+tableSize n = bytesFor (parentPlace (n - 1))
 
 -- the count, and the parent of node k + 1
 abbrev pub countAt : List ℕ → ℕ
 countAt s = field s 0 9
 
 abbrev pub parentAt : List ℕ → ℕ → ℕ
-parentAt s k = field s (place k) (long k)
+parentAt s k = field s (parentPlace k) (long k)

@@ -19,12 +19,12 @@ abbrev pub Width-exactly : Type 0
 Width-exactly = (k : ℕ) → k < 2 ^ 64 → (k < 2 ^ long k) × (2 ^ long k ≤ 2 * k + 1)
 
 -- The reader refuses exactly as the format says,
-abbrev pub Ruled-exactly : Type 0
-Ruled-exactly = (s : List ℕ) (r : ℕ) → (readingOf s .refusal ≡ r) ↔ Ruled s r
+abbrev pub Table-ruled-exactly : Type 0
+Table-ruled-exactly = (s : List ℕ) (r : ℕ) → (readingOf s .refusal ≡ r) ↔ Ruled s r
 
 -- and answers zeros where it refuses.
-abbrev pub Refused-with-zeros : Type 0
-Refused-with-zeros = (s : List ℕ) → 0 < readingOf s .refusal → readingOf s ≡ refused (readingOf s .refusal)
+abbrev pub Table-refused-with-zeros : Type 0
+Table-refused-with-zeros = (s : List ℕ) → 0 < readingOf s .refusal → readingOf s ≡ refused (readingOf s .refusal)
 
 -- A longer input reads as its first 226 bytes: the longest table has 225, and one byte more is enough to tell that bytes are left over.
 abbrev pub Table-first-bytes : Type 0
@@ -45,8 +45,8 @@ Table-writes-back = (s : List ℕ) (t : Tree) (out : List ℕ) → Bytes s → r
     → (writtenOf t (length out) ≡ record { refusal = 0; bytes = length s }) × (outputOf t out ≡ s ++ drop (length s) out)
 
 -- The writer refuses exactly as document 01 says,
-abbrev pub Written-exactly : Type 0
-Written-exactly = (t : Tree) (room : ℕ) (w : Written) → (writtenOf t room ≡ w) ↔ Answered t room w
+abbrev pub Table-written-exactly : Type 0
+Table-written-exactly = (t : Tree) (room : ℕ) (w : Written) → (writtenOf t room ≡ w) ↔ Answered t room w
 
 -- and changes nothing where it refuses.
 abbrev pub Refused-output-kept : Type 0

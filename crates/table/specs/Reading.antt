@@ -6,7 +6,7 @@ use lib.Dec.{leb}
 use lib.ListN.{length, set, replicate}
 use Rattle.packed.specs.Parts.{ends}
 use Rattle.tree.specs.declared.Tree.{Tree}
-use Rattle.table.specs.Layout.{place, countAt, parentAt}
+use Rattle.table.specs.Layout.{parentPlace, countAt, parentAt}
 use Rattle.table.specs.declared.Reading.{Reading}
 
 -- the earlier of two refusals; 0 is none
@@ -16,7 +16,7 @@ first (suc r) later = suc r
 
 -- of node k + 1, and of nodes 1 to k
 abbrev pub nodeFault : List ℕ → ℕ → ℕ
-nodeFault s k = cond (leb (place (suc k)) (8 * length s)) (cond (leb (parentAt s k) k) 0 3) 1
+nodeFault s k = cond (leb (parentPlace (suc k)) (8 * length s)) (cond (leb (parentAt s k) k) 0 3) 1
 
 unfoldable pub nodesFault : List ℕ → ℕ → ℕ
 nodesFault s zero = 0
@@ -24,7 +24,7 @@ nodesFault s (suc k) = first (nodesFault s k) (nodeFault s k)
 
 -- of all that follows the count n, and of the whole
 abbrev pub restFault : List ℕ → ℕ → ℕ
-restFault s n = first (cond (leb 1 n && leb n 256) 0 2) (first (nodesFault s (n - 1)) (cond (ends s (place (n - 1))) 0 4))
+restFault s n = first (cond (leb 1 n && leb n 256) 0 2) (first (nodesFault s (n - 1)) (cond (ends s (parentPlace (n - 1))) 0 4))
 
 unfoldable pub refusalOf : List ℕ → ℕ
 refusalOf s = cond (leb 9 (8 * length s)) (restFault s (countAt s)) 1

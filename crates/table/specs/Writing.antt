@@ -8,7 +8,7 @@ use lib.ListN.{length, drop}
 use Rattle.packed.specs.Parts.{Part, packed}
 use Rattle.tree.specs.Parents.{parent, inRule}
 use Rattle.tree.specs.declared.Tree.{Tree}
-use Rattle.table.specs.Layout.{long, size}
+use Rattle.table.specs.Layout.{long, tableSize}
 use Rattle.table.specs.declared.Written.{Written}
 
 -- the parent fields of m nodes from node k + 1 on
@@ -27,16 +27,16 @@ tableOf t = packed (tableParts t)
 -- What the writer answers with room for so many bytes: 6 for a tree out of rule, then 9 where the room is too short.
 pub data Answered (t : Tree) (room : ℕ) : Written → Type 0 where
   six : inRule (t .parents) (t .count) ≡ false → Answered t room (record { refusal = 6; bytes = 0 })
-  nine : inRule (t .parents) (t .count) ≡ true → room < size (t .count) → Answered t room (record { refusal = 9; bytes = 0 })
-  done : inRule (t .parents) (t .count) ≡ true → size (t .count) ≤ room → Answered t room (record { refusal = 0; bytes = size (t .count) })
+  nine : inRule (t .parents) (t .count) ≡ true → room < tableSize (t .count) → Answered t room (record { refusal = 9; bytes = 0 })
+  done : inRule (t .parents) (t .count) ≡ true → tableSize (t .count) ≤ room → Answered t room (record { refusal = 0; bytes = tableSize (t .count) })
 
 -- the same as a computation
 unfoldable pub writtenOf : Tree → ℕ → Written
 writtenOf t room =
     cond (inRule (t .parents) (t .count))
-    (cond (leb (size (t .count)) room) (record { refusal = 0; bytes = size (t .count) }) (record { refusal = 9; bytes = 0 }))
+    (cond (leb (tableSize (t .count)) room) (record { refusal = 0; bytes = tableSize (t .count) }) (record { refusal = 9; bytes = 0 }))
     (record { refusal = 6; bytes = 0 })
 
 -- the table and later bytes as they were; all as it was where it is refused
 unfoldable pub outputOf : Tree → List ℕ → List ℕ
-outputOf t out = cond (inRule (t .parents) (t .count) && leb (size (t .count)) (length out)) (tableOf t ++ drop (size (t .count)) out) out
+outputOf t out = cond (inRule (t .parents) (t .count) && leb (tableSize (t .count)) (length out)) (tableOf t ++ drop (tableSize (t .count)) out) out

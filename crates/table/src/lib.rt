@@ -56,7 +56,7 @@ pub fn write(tree: Tree, out: &mut [u8]) -> Written
         };
     }
     let count = tree.count as usize;
-    let bytes = writer::size(count);
+    let bytes = writer::table_size(count);
     if out.len() < bytes {
         return Written {
             refusal: 9,

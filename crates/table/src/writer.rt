@@ -5,15 +5,14 @@ ghost use Prim.Native.Nat.{_≤_, _-_, _*_};
 ghost use lib.ListN.{length, drop, replicate};
 ghost use Rattle.packed.specs.Parts.{putAll};
 ghost use Rattle.tree.specs.Parents.{Grown};
-ghost use Rattle.table.specs.Layout.{place};
-ghost use Rattle.table.specs.Layout.{size as Layout·size};
+ghost use Rattle.table.specs.Layout.{parentPlace, tableSize};
 ghost use Rattle.table.specs.Writing.{nodeParts};
 use crate::width;
 
 // How many bytes the table of so many nodes takes.
-pub fn size(count: usize) -> usize
+pub fn table_size(count: usize) -> usize
     requires { ⌜ (1 ≤ count) × (count ≤ 256) ⌝ }
-    ensures { λ r. ⌜ r ≡ Layout·size count ⌝ }
+    ensures { λ r. ⌜ r ≡ tableSize count ⌝ }
 {
     let mut place: usize = 9;
     let mut k: usize = 0;
@@ -38,7 +37,7 @@ pub fn clear(out: &mut [u8], bytes: usize)
 
 // The parents of nodes 1 to count - 1, each in its place.
 pub fn parents(out: &mut [u8], parents: &[u8; 256], count: usize)
-    requires { ⌜ (1 ≤ count) × ((count ≤ 256) × (Grown (now parents) count × (place (count - 1) ≤ 8 * length (now out)))) ⌝ }
+    requires { ⌜ (1 ≤ count) × ((count ≤ 256) × (Grown (now parents) count × (parentPlace (count - 1) ≤ 8 * length (now out)))) ⌝ }
     ensures { λ _. ⌜ now (out .exit) ≡ putAll (now (out .entry)) 9 (nodeParts (now (parents .entry)) 0 (count - 1)) ⌝ }
 {
     let mut place: usize = 9;

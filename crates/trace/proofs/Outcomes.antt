@@ -2,7 +2,7 @@
 use mathlib.Core.Path.{sym, ap, _∙_}
 use denote.Ref.{now}
 use Rattle.fields.specs.Outcomes.{OneOutcome}
-use Rattle.trace.specs.Traces.{Trace}
+use Rattle.trace.specs.inner.Traces.{Trace}
 use Rattle.trace.proofs.push.Reads as push
 use Rattle.trace.proofs.log.Reads as log
 

@@ -11,10 +11,10 @@ use lib.Seq.{getD-set-same, getD-set-other, append-snoc}
 use borrow.Author.Tests.{lt-ltb, le-ltb}
 use Rattle.messages.specs.Records.{bitsOf, fits, Sized, AllSized, coded}
 use Rattle.messages.specs.Reading.{decoded}
-use Rattle.messages.specs.Writing.{writtenOf, logAfter, bitsOfAll}
+use Rattle.messages.specs.Writing.{recordedOf, logAfter, bitsOfAll}
 use Rattle.messages.specs.declared.Message.{Message}
-use Rattle.messages.specs.declared.Written.{Written}
-use Rattle.trace.specs.Traces.{Trace, trace, pushed, pushedAll, messagesIn, messagesOf, Writing, writing, placed, noted, notedAll}
+use Rattle.messages.specs.declared.Recorded.{Recorded}
+use Rattle.trace.specs.inner.Traces.{Trace, trace, pushed, pushedAll, messagesIn, messagesOf, Writing, writing, placed, noted, notedAll}
 use Rattle.trace.specs.Promises.{Trace-holds}
 use Rattle.messages.proofs.Coding.{coded-back}
 
@@ -35,7 +35,7 @@ module _ (ns : List ℕ) (i : ℕ) (m : Message) (next : m ≡ decoded (getD ns 
   unfolding messagesIn
   bits-next bits w e f = rw (add-one, e, f, next) (sym (bits-more (messagesIn ns i) (decoded (getD ns i 0))))
 
-  pub noted-next : (w : Writing) {s s′ : List ℕ} {at at′ : ℕ} {x : Written} → writing s at ≡ notedAll (messagesIn ns i) w → x ≡ writtenOf (length s) at m → s′ ≡ logAfter s at m → at′ ≡ placed x at
+  pub noted-next : (w : Writing) {s s′ : List ℕ} {at at′ : ℕ} {x : Recorded} → writing s at ≡ notedAll (messagesIn ns i) w → x ≡ recordedOf (length s) at m → s′ ≡ logAfter s at m → at′ ≡ placed x at
       → writing s′ at′ ≡ notedAll (messagesIn ns (i + 1)) w
   unfolding messagesIn
   noted-next w {s} {s′} {at} {at′} {x} e f g h =

@@ -22,8 +22,8 @@ use Rattle.messages.specs.declared.Message.the-variants.{Probe, Response, Updat
 use Rattle.messages.proofs.Answers.{answer-next}
 use Rattle.messages.proofs.Logs.{log-length-kept}
 use Rattle.messages.proofs.Stretches.{sized-append}
-use Rattle.trace.specs.Traces.{messagesIn, loggedOf, logAfterAll, toldLogged, Writing, writing, notedAll}
-use Rattle.trace.specs.Promises.{Logged-exactly, Full-exactly, Refused-log-kept}
+use Rattle.trace.specs.inner.Traces.{messagesIn, loggedOf, logAfterAll, toldLogged, Writing, writing, notedAll}
+use Rattle.trace.specs.Promises.{Trace-logged-exactly, Trace-full-exactly, Trace-log-kept}
 use Rattle.trace.specs.declared.Logged.{Logged}
 use Rattle.trace.specs.declared.Logged.the-variants.{Next, Full}
 
@@ -84,27 +84,27 @@ module _ (n place : ℕ) (ms : List Message) where
 abbrev code : ℕ × ℕ → ℕ
 code t = t .0
 
-pub logged-exactly : Logged-exactly
-logged-exactly n place next ms = (
+pub trace-logged-exactly : Trace-logged-exactly
+trace-logged-exactly n place next ms = (
   by-case n place ms (λ x. toldLogged x ≡ (0, next) → (place + bitsOfAll ms ≤ usableBits n) × (next ≡ place + bitsOfAll ms))
       (λ h e. (h, sym (ap (λ (t : ℕ × ℕ). t .1) e)))
       (λ h e. absurd (suc-ne-zero 8 (ap code e))),
   λ (h, e). ap toldLogged (told-next n place ms h) ∙ ap (λ (p : ℕ). (0, p)) (sym e),
 )
 
-pub full-exactly : Full-exactly
-full-exactly n place ms = (
+pub trace-full-exactly : Trace-full-exactly
+trace-full-exactly n place ms = (
   by-case n place ms (λ x. toldLogged x ≡ (9, 0) → usableBits n < place + bitsOfAll ms) (λ h e. absurd (suc-ne-zero 8 (sym (ap code e)))) (λ h e. h),
   λ h. ap toldLogged (told-full n place ms h),
 )
 
-pub refused-log-kept : Refused-log-kept
+pub trace-log-kept : Trace-log-kept
 unfolding logAfterAll
-refused-log-kept log place ms h = rw (lt-leb (place + bitsOfAll ms) (usableBits (length log)) h)
+trace-log-kept log place ms h = rw (lt-leb (place + bitsOfAll ms) (usableBits (length log)) h)
 
 module _ (log : List ℕ) (place : ℕ) (ms : List Message) where
   pub none-logged : usableBits (length log) < place + bitsOfAll ms → (Full ≡ loggedOf (length log) place ms) × (log ≡ logAfterAll log place ms)
-  none-logged h = (sym (told-full (length log) place ms h), sym (refused-log-kept log place ms h))
+  none-logged h = (sym (told-full (length log) place ms h), sym (trace-log-kept log place ms h))
 
   pub all-logged : place + bitsOfAll ms ≤ usableBits (length log) → AllSized ms → (log′ : List ℕ) (next : ℕ) → writing log′ next ≡ notedAll ms (writing log place)
       → (Next next ≡ loggedOf (length log) place ms) × (log′ ≡ logAfterAll log place ms)

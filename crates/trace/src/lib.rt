@@ -6,10 +6,10 @@ ghost use mathlib.Core.Path.{_≡_};
 ghost use Prim.Native.Nat.{_≤_, min};
 ghost use lib.ListN.{length};
 ghost use Rattle.messages.specs.Writing.{bitsOfAll};
-ghost use Rattle.trace.specs.Traces as spec;
+ghost use Rattle.trace.specs.inner.Traces as spec;
 use messages::Coded;
 use messages::Message;
-use messages::Written;
+use messages::Recorded;
 
 // What logging a trace answers.
 pub enum Logged {
@@ -85,12 +85,12 @@ fn most(len: usize) -> usize
 }
 
 // The place after a message was written; as it was where it was not.
-fn placed(written: Written, place: usize) -> usize
+fn placed(written: Recorded, place: usize) -> usize
     ensures { λ r. ⌜ r ≡ spec.placed written place ⌝ }
 {
     match written {
-        Written::Next(next) => next,
-        Written::Full => place,
-        Written::Misfit => place,
+        Recorded::Next(next) => next,
+        Recorded::Full => place,
+        Recorded::Misfit => place,
     }
 }

@@ -7,7 +7,8 @@ use native.Mathlib.Nat.{not-suc-le-zero}
 use native.Mathlib.Numerals.{add-one}
 use native.Mathlib.Omega.{arith}
 use borrow.Author.Tests.{lt-ltb, le-ltb}
-use Rattle.tree.specs.Every.{every, from, places}
+use Rattle.tree.specs.inner.Places.{from, places}
+use Rattle.tree.specs.Every.{every}
 use Rattle.tree.proofs.Cases.{order, lt-or-le}
 
 module _ (test : ℕ → Bool) where

@@ -6,7 +6,7 @@ use Prim.Native.Nat.{ℕ}
 use Rattle.tree.specs.Sides.{climb, below, pointsTo}
 use Rattle.tree.specs.Sizes.{sizeBelow, listed}
 use Rattle.tree.specs.Turns.{turn, joined}
-use Rattle.tree.specs.Tours.{visit, tour}
+use Rattle.tree.specs.inner.Tours.{visit, tour}
 
 -- node 0 with children 1, 2, 3; and 0-1-2 in a path
 abbrev pub star : List ℕ

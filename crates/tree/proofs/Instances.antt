@@ -8,8 +8,9 @@ use native.Mathlib.Omega.{arith}
 use lib.Dec.{eqb}
 use Rattle.tree.specs.Parents.{parent, Grown}
 use Rattle.tree.specs.Sides.{adjacent, pointsTo}
-use Rattle.tree.specs.Tours.{when, tour, keepIf, kept, OfItsPair}
-use Rattle.tree.specs.Leaves.{Joins, Goes, lowered, raised}
+use Rattle.tree.specs.Kept.{when, keepIf, kept}
+use Rattle.tree.specs.inner.Tours.{tour, OfItsPair}
+use Rattle.tree.specs.Leaves.{Joins, Goes, newNumber, oldNumber}
 use Rattle.tree.proofs.Tours.{visited-once}
 use Rattle.tree.proofs.Examples.{star, path}
 
@@ -65,7 +66,7 @@ left-star = record { not-root = omega arith; leaf = leaf; moved = moved }
     leaf (suc (suc (suc zero))) z h e = absurd (omega arith)
     leaf (suc (suc (suc (suc j)))) z h e = absurd (omega arith)
 
-    moved : (j : ℕ) → 0 < j → j < 3 → parent (0 ∷ 0 ∷ 0 ∷ []) j ≡ lowered 2 (parent star (raised 2 j))
+    moved : (j : ℕ) → 0 < j → j < 3 → parent (0 ∷ 0 ∷ 0 ∷ []) j ≡ newNumber 2 (parent star (oldNumber 2 j))
     moved zero z h = absurd (omega arith)
     moved (suc zero) z h = refl
     moved (suc (suc zero)) z h = refl

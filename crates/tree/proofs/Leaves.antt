@@ -9,7 +9,7 @@ use lib.Dec.{eqb, ltb}
 use borrow.Author.Tests.{lt-ltb, le-ltb, eq-eqb, ne-eqb}
 use Rattle.tree.specs.Parents.{parent, Grown}
 use Rattle.tree.specs.Sides.{below, adjacent, side}
-use Rattle.tree.specs.Leaves.{Joins, Goes, lowered, raised}
+use Rattle.tree.specs.Leaves.{Joins, Goes, newNumber, oldNumber}
 use Rattle.tree.specs.Promises.{Join-grown, Join-adjacent, Join-side, Join-leaf, Go-grown, Go-adjacent, Go-side}
 use Rattle.tree.proofs.Cases.{either, order, lt-or-le}
 use Rattle.tree.proofs.Below.{below-root, below-step, inherited}
@@ -75,41 +75,41 @@ join-leaf ps n p qs grown joins u v hu hv = rw (below-leaf ps n p qs grown joins
 
 -- ---- a leaf goes
 
-raised-cases : {X : Type 0} (x j : ℕ) → (j < x → raised x j ≡ j → X) → (x ≤ j → raised x j ≡ suc j → X) → X
+raised-cases : {X : Type 0} (x j : ℕ) → (j < x → oldNumber x j ≡ j → X) → (x ≤ j → oldNumber x j ≡ suc j → X) → X
 raised-cases x j f g = lt-or-le j x (λ a. f a (rw (lt-ltb j x a))) (λ a. g a (rw (le-ltb j x a)))
 
-raised-lowered : (x y : ℕ) → y ≢ x → raised x (lowered x y) ≡ y
+raised-lowered : (x y : ℕ) → y ≢ x → oldNumber x (newNumber x y) ≡ y
 raised-lowered x y d = order y x
     (λ a. rw (le-ltb x y (omega arith), lt-ltb y x a))
     (λ e. absurd (d e))
     (λ a. rw (lt-ltb x y a, le-ltb (y - 1) x (omega arith)) (omega arith))
 
-raised-ordered : (x i j : ℕ) → i < j → raised x i < raised x j
+raised-ordered : (x i j : ℕ) → i < j → oldNumber x i < oldNumber x j
 raised-ordered x i j l = raised-cases x i
     (λ a e. raised-cases x j (λ b o. omega arith) (λ b o. omega arith))
     (λ a e. raised-cases x j (λ b o. omega arith) (λ b o. omega arith))
 
 module _ (ps : List ℕ) (m x : ℕ) (qs : List ℕ) (goes : Goes ps m x qs) where
-  raised-root : raised x 0 ≡ 0
+  raised-root : oldNumber x 0 ≡ 0
   raised-root = rw (lt-ltb 0 x (goes .not-root))
 
-  moves : (j : ℕ) → 0 < j → j < m → (0 < raised x j) × (raised x j < suc m) × (parent ps (raised x j) ≡ raised x (parent qs j))
+  moves : (j : ℕ) → 0 < j → j < m → (0 < oldNumber x j) × (oldNumber x j < suc m) × (parent ps (oldNumber x j) ≡ oldNumber x (parent qs j))
   moves j p h =
-      let a : (0 < raised x j) × (raised x j < suc m) = raised-cases x j (λ l e. omega arith) (λ l e. omega arith) in
-      (a .0, a .1, sym (ap (raised x) (goes .moved j p h) ∙ raised-lowered x (parent ps (raised x j)) (goes .leaf (raised x j) (a .0) (a .1))))
+      let a : (0 < oldNumber x j) × (oldNumber x j < suc m) = raised-cases x j (λ l e. omega arith) (λ l e. omega arith) in
+      (a .0, a .1, sym (ap (oldNumber x) (goes .moved j p h) ∙ raised-lowered x (parent ps (oldNumber x j)) (goes .leaf (oldNumber x j) (a .0) (a .1))))
 
 pub go-grown : Go-grown
 go-grown ps m x qs grown goes j p h =
     let t = moves ps m x qs goes j p h in
-    let l = grown (raised x j) (t .0) (t .1) in
+    let l = grown (oldNumber x j) (t .0) (t .1) in
     raised-cases x j
     (λ a e. raised-cases x (parent qs j) (λ b o. omega (arith, t .2)) (λ b o. omega (arith, t .2)))
     (λ a e. raised-cases x (parent qs j) (λ b o. omega (arith, t .2)) (λ b o. omega (arith, t .2)))
 
 pub go-adjacent : Go-adjacent
 go-adjacent ps m x qs grown goes =
-    adjacent-map ps (suc m) grown qs m (go-grown ps m x qs grown goes) (raised x) (raised-root ps m x qs goes) (moves ps m x qs goes) (raised-ordered x)
+    adjacent-map ps (suc m) grown qs m (go-grown ps m x qs grown goes) (oldNumber x) (raised-root ps m x qs goes) (moves ps m x qs goes) (raised-ordered x)
 
 pub go-side : Go-side
 go-side ps m x qs grown goes =
-    side-map ps (suc m) grown qs m (go-grown ps m x qs grown goes) (raised x) (raised-root ps m x qs goes) (moves ps m x qs goes) (raised-ordered x)
+    side-map ps (suc m) grown qs m (go-grown ps m x qs grown goes) (oldNumber x) (raised-root ps m x qs goes) (moves ps m x qs goes) (raised-ordered x)

@@ -7,7 +7,7 @@ use Prim.Native.Nat.{ℕ, zero, suc, _<_}
 use native.Mathlib.Nat.{not-suc-le-zero, le-of-suc-le-suc, eq-or-lt-of-le}
 use native.Mathlib.Omega.{arith}
 use Rattle.tree.specs.Turns.{joined}
-use Rattle.tree.specs.Tours.{when, keepIf, kept}
+use Rattle.tree.specs.Kept.{when, keepIf, kept}
 
 module _ {M : Type 0} where
   pub joined-same : (F G : ℕ → List M) (n : ℕ) → ((j : ℕ) → j < n → F j ≡ G j) → joined F n ≡ joined G n

@@ -12,7 +12,7 @@ use Rattle.tree.specs.Parents.{parent, Grown}
 use Rattle.tree.specs.Sides.{below, adjacent, side, pointsTo}
 use Rattle.tree.specs.Paths.{Way, arrives, goes-on}
 use Rattle.tree.specs.Sizes.{size}
-use Rattle.tree.specs.Tours.{Closed}
+use Rattle.tree.specs.inner.Tours.{Closed}
 use Rattle.tree.specs.Promises.{Points-exactly}
 use Rattle.tree.proofs.Cases.{either, order}
 use Rattle.tree.proofs.Below.{below-step}

@@ -11,7 +11,7 @@ use borrow.Author.Tests.{eq-eqb, ne-eqb}
 use Rattle.tree.specs.Parents.{Grown}
 use Rattle.tree.specs.Sides.{adjacent, side}
 use Rattle.tree.specs.Operation.{Op, fold, pick, aggregate}
-use Rattle.tree.specs.Promises.{Side-law, Whole}
+use Rattle.tree.specs.Promises.{Side-law, Whole-law}
 use Rattle.tree.proofs.Cases.{either}
 use Rattle.tree.proofs.Folds.{same, swap, alike, zeros, only, out, chosen, unchosen, same-nodes, parts, pull}
 use Rattle.tree.proofs.Toward.{adjacent-ne, complementary, one-way, self, own, nested}
@@ -55,8 +55,8 @@ side-law ps n grown A op f u v hu b =
     (λ e. rw (eq-eqb v w e, complementary ps u v j (λ o. adjacent-ne ps v u b (sym o)), e, s))
     (λ e. rw (ne-eqb v w e) (sym (nested ps n grown u w v j hu h a b (omega arith) s))))))
 
-pub whole : Whole
-whole ps n grown A op f x h =
+pub whole-law : Whole-law
+whole-law ps n grown A op f x h =
     pull op (λ j. true) f n x h refl
     ∙ ap (op ._⊕_ (f x)) (sym (fan ps n grown op f x (λ w. true) (λ j. true) h (λ w j l s a. refl))
     ∙ same-nodes op (λ w. adjacent ps w x && true) (λ w. adjacent ps w x) (λ w. aggregate op f (side ps w x) n) n (λ w l. and-true (adjacent ps w x)))

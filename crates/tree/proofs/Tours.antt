@@ -11,7 +11,8 @@ use borrow.Author.Tests.{eqb-false, eq-eqb, ne-eqb, not-true}
 use Rattle.tree.specs.Parents.{Grown}
 use Rattle.tree.specs.Sides.{adjacent, side, other}
 use Rattle.tree.specs.Sizes.{size}
-use Rattle.tree.specs.Tours.{when, onward, visit, tour, Closed, kept, OfItsPair}
+use Rattle.tree.specs.Kept.{when, kept}
+use Rattle.tree.specs.inner.Tours.{onward, visit, tour, Closed, OfItsPair}
 use Rattle.tree.specs.Promises.{Visited-once, Count-is-enough}
 use Rattle.tree.proofs.Cases.{either, never}
 use Rattle.tree.proofs.Toward.{adjacent-ne, adjacent-sym, complementary, next, unique, self, not-own, own, nested}

@@ -9,7 +9,7 @@ use lib.Dec.{eqb}
 use borrow.Author.Tests.{eq-eqb, ne-eqb}
 use Rattle.tree.specs.Operation.{fold, pick}
 use Rattle.tree.specs.Turns.{turn, round}
-use Rattle.tree.specs.Tours.{kept}
+use Rattle.tree.specs.Kept.{kept}
 use Rattle.tree.specs.Promises.{Any-order}
 use Rattle.tree.proofs.Folds.{swap, alike, only}
 use Rattle.tree.proofs.Lists.{joined-same, joined-none, joined-one, kept-joined}

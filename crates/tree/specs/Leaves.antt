@@ -14,14 +14,14 @@ pub record Joins (ps : List ℕ) (n p : ℕ) (qs : List ℕ) : Type 0 where
   pub new : parent qs n ≡ p
 
 -- numbers above x go down by one; and back
-abbrev pub lowered : ℕ → ℕ → ℕ
-lowered x j = cond (ltb x j) (j - 1) j
+abbrev pub newNumber : ℕ → ℕ → ℕ
+newNumber x j = cond (ltb x j) (j - 1) j
 
-abbrev pub raised : ℕ → ℕ → ℕ
-raised x j = cond (ltb j x) j (suc j)
+abbrev pub oldNumber : ℕ → ℕ → ℕ
+oldNumber x j = cond (ltb j x) j (suc j)
 
 -- qs is ps without its leaf x, of m + 1 nodes before and m after
 pub record Goes (ps : List ℕ) (m x : ℕ) (qs : List ℕ) : Type 0 where
   pub not-root : 0 < x
   pub leaf : (j : ℕ) → 0 < j → j < suc m → parent ps j ≢ x
-  pub moved : (j : ℕ) → 0 < j → j < m → parent qs j ≡ lowered x (parent ps (raised x j))
+  pub moved : (j : ℕ) → 0 < j → j < m → parent qs j ≡ newNumber x (parent ps (oldNumber x j))

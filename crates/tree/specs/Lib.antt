@@ -1,5 +1,6 @@
--- What a reader must believe of trees: parents, sides, what is folded over them, how a walk goes, and the promises.
+-- What a reader must believe of trees: parents, sides, what is folded over them, the order of neighbours, and the promises; and what is inner.
 pub mod Every
+pub mod Kept
 pub mod Parents
 pub mod Sides
 pub mod Paths
@@ -7,6 +8,6 @@ pub mod Operation
 pub mod Sizes
 pub mod Ranges
 pub mod Turns
-pub mod Tours
 pub mod Leaves
+pub mod inner
 pub mod Promises

@@ -31,8 +31,8 @@ pub record InRule (ps : List ℕ) (n : ℕ) : Type 0 where
 unfoldable pub entryInRule : ℕ → ℕ → ℕ → Bool
 entryInRule n i p = cond (ltb 0 i && ltb i n) (ltb p i) (eqb p 0)
 
-abbrev pub entryAt : List ℕ → ℕ → ℕ → Bool
-entryAt ps n i = entryInRule n i (parent ps i)
+abbrev pub placeInRule : List ℕ → ℕ → ℕ → Bool
+placeInRule ps n i = entryInRule n i (parent ps i)
 
 unfoldable pub inRule : List ℕ → ℕ → Bool
-inRule ps n = leb 1 n && (leb n 256 && every (entryAt ps n) 256)
+inRule ps n = leb 1 n && (leb n 256 && every (placeInRule ps n) 256)

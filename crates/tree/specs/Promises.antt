@@ -15,8 +15,9 @@ use Rattle.tree.specs.Operation.{Op, fold, aggregate, plus, sum}
 use Rattle.tree.specs.Sizes.{size, sizeBelow, sizes}
 use Rattle.tree.specs.Ranges.{Range}
 use Rattle.tree.specs.Turns.{turn}
-use Rattle.tree.specs.Tours.{when, tour, Closed, kept, OfItsPair}
-use Rattle.tree.specs.Leaves.{Joins, Goes, raised}
+use Rattle.tree.specs.Kept.{when, kept}
+use Rattle.tree.specs.inner.Tours.{tour, Closed, OfItsPair}
+use Rattle.tree.specs.Leaves.{Joins, Goes, oldNumber}
 
 -- The test of a tree says what it should.
 abbrev pub In-rule-exactly : Type 0
@@ -53,8 +54,8 @@ Side-law = (ps : List ℕ) (n : ℕ) → Grown ps n → (A : Type 0) (op : Op A)
     → aggregate op f (side ps u v) n ≡ op ._⊕_ (f u) (aggregate op (λ w. aggregate op f (side ps w u) n) (other ps u v) n)
 
 -- and the whole is any node's own value and the aggregates of the sides of all its neighbours.
-abbrev pub Whole : Type 1
-Whole = (ps : List ℕ) (n : ℕ) → Grown ps n → (A : Type 0) (op : Op A) (f : ℕ → A) (x : ℕ) → x < n
+abbrev pub Whole-law : Type 1
+Whole-law = (ps : List ℕ) (n : ℕ) → Grown ps n → (A : Type 0) (op : Op A) (f : ℕ → A) (x : ℕ) → x < n
     → fold op f n ≡ op ._⊕_ (f x) (aggregate op (λ w. aggregate op f (side ps w x) n) (λ w. adjacent ps w x) n)
 
 -- A fold does not depend on the order of candidates.
@@ -92,10 +93,10 @@ abbrev pub Go-grown : Type 0
 Go-grown = (ps : List ℕ) (m x : ℕ) (qs : List ℕ) → Grown ps (suc m) → Goes ps m x qs → Grown qs m
 
 abbrev pub Go-adjacent : Type 0
-Go-adjacent = (ps : List ℕ) (m x : ℕ) (qs : List ℕ) → Grown ps (suc m) → Goes ps m x qs → (u v : ℕ) → u < m → v < m → adjacent qs u v ≡ adjacent ps (raised x u) (raised x v)
+Go-adjacent = (ps : List ℕ) (m x : ℕ) (qs : List ℕ) → Grown ps (suc m) → Goes ps m x qs → (u v : ℕ) → u < m → v < m → adjacent qs u v ≡ adjacent ps (oldNumber x u) (oldNumber x v)
 
 abbrev pub Go-side : Type 0
-Go-side = (ps : List ℕ) (m x : ℕ) (qs : List ℕ) → Grown ps (suc m) → Goes ps m x qs → (u v j : ℕ) → j < m → side qs u v j ≡ side ps (raised x u) (raised x v) (raised x j)
+Go-side = (ps : List ℕ) (m x : ℕ) (qs : List ℕ) → Grown ps (suc m) → Goes ps m x qs → (u v j : ℕ) → j < m → side qs u v j ≡ side ps (oldNumber x u) (oldNumber x v) (oldNumber x j)
 
 -- A tree in rule has at each place of its sizes how many nodes are below that node, which is the size of its side of the edge to its parent.
 abbrev pub Sizes-read : Type 0

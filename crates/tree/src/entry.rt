@@ -3,8 +3,9 @@ use crate::edge;
 ghost use mathlib.Core.Path.{_≡_};
 ghost use Prim.Native.Nat.{_≤_};
 ghost use lib.Dec.{ltb, eqb};
-ghost use Rattle.tree.specs.Every.{every, from};
-ghost use Rattle.tree.specs.Parents.{parent, entryAt, inRule};
+ghost use Rattle.tree.specs.inner.Places.{from};
+ghost use Rattle.tree.specs.Every.{every};
+ghost use Rattle.tree.specs.Parents.{parent, placeInRule, inRule};
 
 // Whether the count is 1 to 256 and all entries are in rule.
 pub fn in_rule(count: usize, parents: &[u8; 256]) -> bool
@@ -23,7 +24,7 @@ pub fn in_rule(count: usize, parents: &[u8; 256]) -> bool
 // smaller than its child. A pass goes over all its places, whatever it finds.
 pub fn entries_in_rule(count: usize, parents: &[u8; 256]) -> bool
     requires { ⌜ (1 ≤ count) × (count ≤ 256) ⌝ }
-    ensures { λ r. ⌜ r ≡ every (entryAt (now (parents .entry)) count) 256 ⌝ }
+    ensures { λ r. ⌜ r ≡ every (placeInRule (now (parents .entry)) count) 256 ⌝ }
 {
     zero(0, 1, parents) & grown(count, parents) & zero(count, 256, parents)
 }

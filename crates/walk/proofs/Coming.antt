@@ -13,7 +13,7 @@ use Rattle.tree.proofs.Cases.{either}
 use Rattle.tree.proofs.Toward.{adjacent-ne, adjacent-sym, complementary, not-own, nested}
 use Rattle.mechanism.specs.Views.{View}
 use Rattle.mechanism.proofs.Others.{others}
-use Rattle.walk.specs.Telling.{Come}
+use Rattle.walk.specs.inner.Telling.{Come}
 
 module _ (q : View) (x : ℕ) (grown : Grown (q .parents) (q .count)) (hx : x < q .count) where
   -- nobody told x

@@ -5,7 +5,7 @@ use Prim.Native.Nat.{ℕ, zero, suc, _+_, _-_, _<_, _≤_}
 use native.Mathlib.Nat.{le-refl, add-zero}
 use native.Mathlib.Omega.{arith}
 use Rattle.tree.proofs.Cases.{lt-or-le}
-use Rattle.walk.specs.Links.{Found}
+use Rattle.walk.specs.inner.Links.{Found}
 
 pub found-none : {n : ℕ} {test : ℕ → Bool} → Found n test n n
 found-none {n} = record { from = le-refl n; upto = le-refl n; skipped = λ j a b. absurd (omega arith); found = λ h. absurd (omega arith) }

@@ -9,8 +9,8 @@ use Rattle.tree.specs.Sides.{other}
 use Rattle.tree.specs.Turns.{turn}
 use Rattle.mechanism.specs.Views.{View}
 use Rattle.mechanism.specs.Spreading.{addIf}
-use Rattle.walk.specs.Laters.{known, away, later}
-use Rattle.walk.specs.Telling.{before}
+use Rattle.walk.specs.inner.Laters.{known, away, later}
+use Rattle.walk.specs.inner.Telling.{before}
 
 module _ {A : Type 0} (op : Op A) (unit : (a : A) → op ._⊕_ a (op .ε) ≡ a) where
   open Op op using (_⊕_, ε, assoc, comm)

@@ -13,7 +13,7 @@ use borrow.Author.Tests.{eq-eqb}
 use Rattle.tree.specs.Parents.{parent, Grown, child}
 use Rattle.tree.proofs.Cases.{either}
 use Rattle.tree.proofs.Children.{child-is, child-low, child-other}
-use Rattle.walk.specs.Links.{Found, Linked}
+use Rattle.walk.specs.inner.Links.{Found, Linked}
 use Rattle.walk.proofs.Finding.{found-none, found-here, found-from, found-later}
 
 -- the nodes from i on are linked

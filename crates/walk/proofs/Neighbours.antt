@@ -15,7 +15,7 @@ use Rattle.tree.specs.Turns.{turn}
 use Rattle.tree.proofs.Cases.{order}
 use Rattle.tree.proofs.Toward.{adjacent-ne}
 use Rattle.tree.proofs.Children.{child-is}
-use Rattle.walk.specs.Links.{Found, Linked, neighbourAt}
+use Rattle.walk.specs.inner.Links.{Found, Linked, neighbourAt}
 use Rattle.walk.proofs.Finding.{found-here, found-from}
 
 -- the candidate j is below u, is u, or is above it

@@ -23,7 +23,7 @@ use Rattle.session.specs.Holding.{pairAt}
 use Rattle.mechanism.specs.Views.{View}
 use Rattle.mechanism.specs.Spreading.{addIf}
 use Rattle.tree.proofs.Children.{child-is}
-use Rattle.walk.specs.Laters.{known, away, later, Passing, Passed, Cleared}
+use Rattle.walk.specs.inner.Laters.{known, away, later, Passing, Passed, Cleared}
 use Rattle.walk.proofs.Neighbours.{near-below, near-self, near-above}
 use Rattle.walk.proofs.Ways.{Ahead, ahead-none, on-way, off-way, ahead-on, ahead-off}
 

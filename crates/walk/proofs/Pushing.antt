@@ -2,7 +2,7 @@
 use mathlib.Core.Path.{_≡_, refl, ap, _∙_}
 use mathlib.Core.List.{List, [], _∷_, _++_}
 use Rattle.messages.specs.declared.Message.{Message}
-use Rattle.trace.specs.Traces.{Trace, pushed, pushedAll}
+use Rattle.trace.specs.inner.Traces.{Trace, pushed, pushedAll}
 
 pub pushedAll-none : (t : Trace) → pushedAll [] t ≡ t
 unfolding pushedAll

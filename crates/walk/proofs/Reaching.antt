@@ -27,8 +27,8 @@ use Rattle.mechanism.specs.Views.{View}
 use Rattle.mechanism.specs.Spreading.{carried}
 use Rattle.mechanism.proofs.Others.{others, all-others, fold-most, fold-first, beyond}
 use Rattle.mechanism.proofs.Ranging.{wider, side-in}
-use Rattle.walk.specs.Laters.{knownBy, known, away, later}
-use Rattle.walk.specs.Telling.{Steady, Come, before}
+use Rattle.walk.specs.inner.Laters.{knownBy, known, away, later}
+use Rattle.walk.specs.inner.Telling.{Steady, Come, before}
 use Rattle.walk.proofs.Fitting.{fits-wide}
 use Rattle.walk.proofs.Split.{told-by}
 use Rattle.walk.proofs.Halves.{cut, fromOther, fromAway, before-is, later-is}

@@ -23,10 +23,10 @@ use Rattle.session.specs.Holding.{pairAt}
 use Rattle.mechanism.specs.Views.{View}
 use Rattle.mechanism.specs.Spreading.{addIf, carried, sends, spread}
 use Rattle.mechanism.proofs.Others.{size-most}
-use Rattle.trace.specs.Traces.{Trace, pushed, pushedAll}
-use Rattle.walk.specs.Links.{Found, neighbourAt, Placed}
-use Rattle.walk.specs.Laters.{known}
-use Rattle.walk.specs.Telling.{before, Spreading, Telling, Spread, Told}
+use Rattle.trace.specs.inner.Traces.{Trace, pushed, pushedAll}
+use Rattle.walk.specs.inner.Links.{Found, neighbourAt, Placed}
+use Rattle.walk.specs.inner.Laters.{known}
+use Rattle.walk.specs.inner.Telling.{before, Spreading, Telling, Spread, Told}
 use Rattle.walk.proofs.Finding.{found-same}
 use Rattle.walk.proofs.Pushing.{pushedAll-none, pushedAll-append, pushedAll-told, pushedAll-asked}
 use Rattle.walk.proofs.Split.{split}

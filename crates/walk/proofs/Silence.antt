@@ -14,8 +14,8 @@ use Rattle.tree.proofs.Lists.{joined-none}
 use Rattle.messages.specs.declared.Message.{Message}
 use Rattle.mechanism.specs.Views.{View}
 use Rattle.mechanism.specs.Spreading.{sends, spread, write}
-use Rattle.walk.specs.Links.{Found, Linked, neighbourAt, Placed}
-use Rattle.walk.specs.Telling.{SilentUpTo}
+use Rattle.walk.specs.inner.Links.{Found, Linked, neighbourAt, Placed}
+use Rattle.walk.specs.inner.Telling.{SilentUpTo}
 
 -- ---- from neighbour to neighbour
 

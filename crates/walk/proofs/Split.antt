@@ -18,8 +18,8 @@ use Rattle.mechanism.specs.Views.{View}
 use Rattle.mechanism.specs.Spreading.{carried}
 use Rattle.mechanism.proofs.Others.{others}
 use Rattle.mechanism.proofs.Aggregates.{total-is}
-use Rattle.walk.specs.Laters.{knownBy, known, away, later}
-use Rattle.walk.specs.Telling.{Steady, Come, before}
+use Rattle.walk.specs.inner.Laters.{knownBy, known, away, later}
+use Rattle.walk.specs.inner.Telling.{Steady, Come, before}
 use Rattle.walk.proofs.Halves.{cut, fromOther, fromAway, before-is, later-is}
 
 -- what is known where there is a lease

@@ -8,9 +8,9 @@ use Rattle.session.specs.Holding.{valueOf, Typed}
 use Rattle.session.specs.Soundness.{Sound}
 use Rattle.session.specs.declared.Session.{Session}
 use Rattle.mechanism.specs.Views.{View, view}
-use Rattle.walk.specs.Links.{Linked}
-use Rattle.walk.specs.Laters.{later, Passing, Passed}
-use Rattle.walk.specs.Telling.{Steady, Spreading}
+use Rattle.walk.specs.inner.Links.{Linked}
+use Rattle.walk.specs.inner.Laters.{later, Passing, Passed}
+use Rattle.walk.specs.inner.Telling.{Steady, Spreading}
 use Rattle.walk.proofs.Reaching.{range-wide, later-in}
 use Rattle.walk.proofs.Coming.{come-first}
 

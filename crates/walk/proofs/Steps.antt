@@ -17,9 +17,9 @@ use Rattle.tree.proofs.Turns.{turn-inside}
 use Rattle.messages.specs.declared.Message.the-variants.{Probe, Response}
 use Rattle.mechanism.specs.Views.{View}
 use Rattle.mechanism.specs.Combining.{Said, said, asked, heard, stepIf, sofar, ask}
-use Rattle.trace.specs.Traces.{Trace, pushed, pushedAll}
-use Rattle.walk.specs.Links.{Found, neighbourAt, Placed}
-use Rattle.walk.specs.Asking.{Asking, Visiting, Told, Visited}
+use Rattle.trace.specs.inner.Traces.{Trace, pushed, pushedAll}
+use Rattle.walk.specs.inner.Links.{Found, neighbourAt, Placed}
+use Rattle.walk.specs.inner.Asking.{Asking, Visiting, Replied, Visited}
 use Rattle.walk.proofs.Finding.{found-same}
 use Rattle.walk.proofs.Pushing.{pushedAll-none, pushedAll-append, pushedAll-asked}
 
@@ -65,7 +65,7 @@ module _ {q : View} {f u v w : ℕ} {z : ℤ} where
       pub visited-kept : {z′ : ℤ} {t : Trace} → z′ ≡ z +ℤ y → Visited q f u v w z t z′ t
       visited-kept {t = t} e = record { sums = rw (kept, ← k) e; logs = rw (kept, pushedAll-none t) }
 
-    module _ (none : l ≡ 0) {y : ℤ} {t₁ t₂ : Trace} (told : Told q f w u t₁ y t₂) where
+    module _ (none : l ≡ 0) {y : ℤ} {t₁ t₂ : Trace} (told : Replied q f w u t₁ y t₂) where
       answered : step q (ask sum q f) u v w (said z []) ≡ said (z +ℤ ask sum q f w u .sum) (asked sum q u w (ask sum q f w u) .log)
       answered = step-asked q (ask sum q f) u v w (said z []) (h .beside) d leased none
 
@@ -131,11 +131,11 @@ module _ {q : View} {f u v : ℕ} {z : ℤ} {t : Trace} where
       let e = sym (found-same (sofar sum q (ask sum q f) u v) (sofar-far q (ask sum q f) u v) h) in
       record { upto = h .upto; beside = h .found; partly = record { sums = rw e at (a .sums); logs = rw e at (a .logs) } }
 
-  pub told-none : f ≡ 0 → z ≡ q .value u → Told q f u v t z t
+  pub told-none : f ≡ 0 → z ≡ q .value u → Replied q f u v t z t
   unfolding ask pushedAll
   told-none e h = record { sums = rw e h; logs = rw e }
 
-  pub told-all : {k : ℕ} {t′ : Trace} → f ≢ 0 → q .count ≤ k → Standing q (f - 1) u v k t z t′ → Told q f u v t z t′
+  pub told-all : {k : ℕ} {t′ : Trace} → f ≢ 0 → q .count ≤ k → Standing q (f - 1) u v k t z t′ → Replied q f u v t z t′
   told-all {k} d l h =
       let e : k ≡ q .count = omega (arith, h .upto) in
       record { sums = rw (ask-some q f u v d) (rw e at (h .partly .sums)); logs = rw (ask-some q f u v d) (rw e at (h .partly .logs)) }

@@ -6,7 +6,7 @@ use borrow.Author.Needs.{needs}
 use Rattle.messages.specs.Records.{kindOf}
 use Rattle.messages.specs.Writing.{bitsOfAll}
 use Rattle.messages.proofs.Widths.{width-bounds}
-use Rattle.trace.specs.Traces.{messagesIn}
+use Rattle.trace.specs.inner.Traces.{messagesIn}
 use Rattle.trace.proofs.Traced.{bits-next}
 use Rattle.trace.proofs.bits.Statement.{statement}
 use Rattle.trace.proofs.bits.Tie as tie

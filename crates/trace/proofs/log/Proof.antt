@@ -4,7 +4,7 @@ use Prim.Native.Nat.{min}
 use native.Mathlib.Omega.{arith}
 use borrow.Author.Needs.{needs}
 use Rattle.messages.specs.declared.Message.{Message}
-use Rattle.trace.specs.Traces.{messagesOf}
+use Rattle.trace.specs.inner.Traces.{messagesOf}
 use Rattle.trace.proofs.Whole.{messages-sized, none-logged, all-logged}
 use Rattle.trace.proofs.log.Statement.{statement}
 use Rattle.trace.proofs.log.Tie as tie

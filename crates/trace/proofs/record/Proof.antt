@@ -4,7 +4,7 @@ use Prim.Native.Nat.{_-_, _≤_, min}
 use native.Mathlib.Omega.{arith}
 use lib.ListN.{length}
 use borrow.Author.Needs.{needs}
-use Rattle.trace.specs.Traces.{messagesIn, writing, notedAll}
+use Rattle.trace.specs.inner.Traces.{messagesIn, writing, notedAll}
 use Rattle.trace.proofs.Traced.{noted-next}
 use Rattle.trace.proofs.record.Statement.{statement}
 use Rattle.trace.proofs.record.Tie as tie

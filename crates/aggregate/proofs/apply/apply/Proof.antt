@@ -3,7 +3,7 @@ use mathlib.Core.Path.{_≡_}
 use Prim.Native.Nat.{_-_, _≤_, min}
 use native.Mathlib.Omega.{arith}
 use borrow.Author.Needs.{needs}
-use Rattle.aggregate.specs.Afters.{linksBy}
+use Rattle.aggregate.specs.inner.Afters.{linksBy}
 use Rattle.aggregate.proofs.Hitting.{Done, done-none, done-more, step-up, step-down}
 use Rattle.aggregate.proofs.apply.apply.Statement.{statement}
 use Rattle.aggregate.proofs.apply.apply.Tie as tie

@@ -10,7 +10,7 @@ use borrow.Author.Needs.{needs}
 use borrow.Fn.Kinds.{In}
 use borrow.Fn.PlainCycle.{Measures, is, falls, and}
 use Rattle.mechanism.specs.Views.{viewOf}
-use Rattle.trace.specs.Traces as traces
+use Rattle.trace.specs.inner.Traces as traces
 use Rattle.messages.proofs.Parts.{handed-on}
 use Rattle.walk.proofs.Steps.{visited-back, kept-fits, visited-kept, asked-fits, visited-asked, Standing, partly-none, partly-next, stand, told-none, told-all, visiting, placed}
 use Rattle.aggregate.proofs.ask.ask.Reads as ask

@@ -5,7 +5,7 @@ use native.Mathlib.Omega.{arith}
 use lib.Dec.{ltb}
 use borrow.Author.Tests.{lt-ltb, le-ltb}
 use Rattle.session.specs.Soundness.{limit}
-use Rattle.aggregate.specs.Serving.{earlyRefusal}
+use Rattle.aggregate.specs.inner.Acts.{earlyRefusal}
 use Rattle.aggregate.proofs.judge.early_refusal.Statement.{statement}
 use Rattle.aggregate.proofs.judge.early_refusal.Tie as tie
 

@@ -3,7 +3,7 @@ use mathlib.Core.Path.{_≡_}
 use Prim.Native.Nat.{_-_, _≤_}
 use native.Mathlib.Omega.{arith}
 use borrow.Author.Needs.{needs}
-use Rattle.walk.specs.Laters.{Cleared}
+use Rattle.walk.specs.inner.Laters.{Cleared}
 use Rattle.walk.proofs.Passes.{cleared-none, cleared-next}
 use Rattle.aggregate.proofs.later.clear.Statement.{statement}
 use Rattle.aggregate.proofs.later.clear.Tie as tie

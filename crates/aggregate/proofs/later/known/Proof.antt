@@ -1,7 +1,7 @@
 -- `later::known` meets its contract: nothing without a lease.
 use mir.Facts.{toZ-ofZ}
 use borrow.Author.Tests.{eq-eqb, ne-eqb}
-use Rattle.walk.specs.Laters.{knownBy}
+use Rattle.walk.specs.inner.Laters.{knownBy}
 use Rattle.aggregate.proofs.later.known.Statement.{statement}
 use Rattle.aggregate.proofs.later.known.Tie as tie
 

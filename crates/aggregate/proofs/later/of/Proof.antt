@@ -11,7 +11,7 @@ use borrow.Author.Tests.{lt-ltb}
 use Rattle.session.specs.Holding.{pairAt}
 use Rattle.mechanism.specs.Views.{View, viewOf}
 use Rattle.messages.proofs.Parts.{handed-on}
-use Rattle.walk.specs.Laters.{knownBy, known}
+use Rattle.walk.specs.inner.Laters.{knownBy, known}
 use Rattle.walk.proofs.Passes.{Passes, Turning, passes-none, parent-less, due-fits, passes-on, passes-off, passed-all}
 use Rattle.aggregate.proofs.later.of.Statement.{statement}
 use Rattle.aggregate.proofs.later.of.Tie as tie

@@ -14,11 +14,11 @@ use Rattle.requests.specs.declared.Request.{Request}
 use Rattle.session.specs.Parts.{sessionBy}
 use Rattle.session.specs.declared.Session.{Session}
 use Rattle.mechanism.specs.Combining.{Said}
-use Rattle.mechanism.specs.Requests.{nodeOf, says}
+use Rattle.requests.specs.Lists.{nodeOf}
+use Rattle.mechanism.specs.Requests.{says}
 use Rattle.mechanism.specs.Views.{view}
-use Rattle.trace.specs.Traces.{trace, pushedAll, loggedOf, logAfterAll}
-use Rattle.aggregate.specs.Acts.{requestAt, Walked}
-use Rattle.aggregate.specs.Serving.{earlyRefusal}
+use Rattle.trace.specs.inner.Traces.{trace, pushedAll, loggedOf, logAfterAll}
+use Rattle.aggregate.specs.inner.Acts.{requestOf, Walked, earlyRefusal}
 use Rattle.aggregate.proofs.Paid.{counts-paid}
 use Rattle.aggregate.proofs.Judging.{Ready, ready}
 use Rattle.aggregate.proofs.Ending.{Spoken, spoken, ends-early, ends-full, ends-well}
@@ -31,7 +31,7 @@ abbrev of : tie.Start → Session
 of s = let a = s .args in sessionBy (a .count) (a .parents .now) (a .values .now) (a .up-lease .now) (a .up-cache .now) (a .up-messages .now) (a .down-lease .now) (a .down-cache .now) (a .down-messages .now) (a .accepted .now)
 
 abbrev due : tie.Start → Request
-due s = requestAt (s .args .x) (s .args .act)
+due s = requestOf (s .args .x) (s .args .act)
 
 -- past the tests
 module _ (e : tie.Else1) where

@@ -6,7 +6,7 @@ use Rattle.session.specs.Parts.{sessionBy}
 use Rattle.session.specs.Soundness.{Sound}
 use Rattle.session.specs.declared.Session.{Session}
 use Rattle.session.proofs.Soundly.{sound-exactly}
-use Rattle.aggregate.specs.Acts.{requestAt}
+use Rattle.aggregate.specs.inner.Acts.{requestOf}
 use Rattle.aggregate.proofs.Ending.{ends-unsound}
 use Rattle.aggregate.proofs.Acting.{refused-in-place}
 use Rattle.aggregate.proofs.serve.tested.Statement.{statement}
@@ -33,7 +33,7 @@ returns : tie.Need-returns
 returns c =
     let i = c .before .before in
     let s = i .before .before .before .before .before .before .before .before .before .before in
-    let e = ends-unsound (of s) (requestAt (s .args .x) (s .args .act)) (s .args .log .now) (s .args .place) (sym (i .parts-are-sound .ensures) ∙ not-true _ (c .before .if1 .taken)) in
+    let e = ends-unsound (of s) (requestOf (s .args .x) (s .args .act)) (s .args .log .now) (s .args .place) (sym (i .parts-are-sound .ensures) ∙ not-true _ (c .before .if1 .taken)) in
     (refused-in-place (of s) (of s) 6 _ (c .refused .ensures) refl (e .0), e .1)
 
 of-requires : tie.Need-of-requires

@@ -10,7 +10,7 @@ use borrow.Author.Needs.{needs}
 use borrow.Fn.Kinds.{In}
 use borrow.Fn.PlainCycle.{Measures, is, falls, and}
 use Rattle.mechanism.specs.Views.{viewOf}
-use Rattle.trace.specs.Traces as traces
+use Rattle.trace.specs.inner.Traces as traces
 use Rattle.messages.proofs.Parts.{handed-on}
 use Rattle.walk.proofs.Sends.{both-small, told-back, adds-fits, told-none, sends-fits, spreading-on, told-last, told-more, Standing, start-fits, partly-none, partly-next, stand, telling, placed, spread-all, spread-none}
 use Rattle.aggregate.proofs.spread.spread.Reads as spread

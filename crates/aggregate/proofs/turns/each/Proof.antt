@@ -11,7 +11,7 @@ use Rattle.requests.specs.declared.Item.the-variants.{Found}
 use Rattle.messages.proofs.Parts.{handed-on}
 use Rattle.session.specs.Parts.{sessionBy}
 use Rattle.session.specs.declared.Session.{Session}
-use Rattle.aggregate.specs.Acts.{requestAt, servedAs}
+use Rattle.aggregate.specs.inner.Acts.{requestOf, servedAs}
 use Rattle.aggregate.specs.Running.{running}
 use Rattle.aggregate.specs.Serving.{servedOf, logOf}
 use Rattle.aggregate.specs.declared.Totals.{Totals}
@@ -53,8 +53,8 @@ module _ (a : tie.After-request2 Inv-loop μ-loop) where
       let l = turning .loop in
       sessionBy (start .args .nodes) (start .args .parents .now) (l .values) (l .up-lease) (l .up-cache) (l .up-messages) (l .down-lease) (l .down-cache) (l .down-messages) (l .accepted)
 
-  acted : requestAt (a .before .before .before .node-of .result) (a .before .before .act-of .result) ≡ due
-  acted = ap (λ (x : ℕ). requestAt x (a .before .before .act-of .result)) (a .before .before .before .node-of .ensures) ∙ a .before .before .act-of .ensures
+  acted : requestOf (a .before .before .before .node-of .result) (a .before .before .act-of .result) ≡ due
+  acted = ap (λ (x : ℕ). requestOf x (a .before .before .act-of .result)) (a .before .before .before .node-of .ensures) ∙ a .before .before .act-of .ensures
 
   -- what was left
   abbrev left : Session

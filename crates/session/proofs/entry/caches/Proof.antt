@@ -5,10 +5,11 @@ use native.Mathlib.Omega.{arith}
 use lib.IntN.{pos}
 use lib.ListN.{getD}
 use mir.Facts.{toZ-ofZ}
-use Rattle.tree.specs.Every.{every, from}
+use Rattle.tree.specs.inner.Places.{from}
+use Rattle.tree.specs.Every.{every}
 use Rattle.tree.specs.Ranges.{inRange}
 use Rattle.tree.proofs.Every.{from-none, from-more}
-use Rattle.session.specs.Passes.{nearSize}
+use Rattle.session.specs.inner.Passes.{nearSize}
 use Rattle.session.proofs.entry.caches.Statement.{statement}
 use Rattle.session.proofs.entry.caches.Tie as tie
 

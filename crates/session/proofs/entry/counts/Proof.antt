@@ -4,7 +4,8 @@ use Prim.Native.Nat.{_-_, _≤_}
 use native.Mathlib.Omega.{arith}
 use lib.Dec.{leb}
 use lib.ListN.{getD}
-use Rattle.tree.specs.Every.{every, from}
+use Rattle.tree.specs.inner.Places.{from}
+use Rattle.tree.specs.Every.{every}
 use Rattle.tree.proofs.Every.{from-none, from-more}
 use Rattle.session.proofs.entry.counts.Statement.{statement}
 use Rattle.session.proofs.entry.counts.Tie as tie

@@ -8,7 +8,8 @@ use lib.ListN.{getD}
 use mir.Syntax.{w64}
 use mir.Val.{ofZ}
 use Rattle.tree.specs.Ranges.{inRange}
-use Rattle.tree.specs.Every.{every, from}
+use Rattle.tree.specs.inner.Places.{from}
+use Rattle.tree.specs.Every.{every}
 use Rattle.tree.proofs.Every.{from-none}
 use Rattle.session.proofs.Limits.{none-more, zero-test}
 use Rattle.session.proofs.entry.no_caches.Statement.{statement}

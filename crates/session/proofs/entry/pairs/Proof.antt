@@ -2,7 +2,7 @@
 use mathlib.Core.Path.{ap₂}
 use mathlib.Core.Bool.{_&&_}
 use borrow.Author.Needs.{needs}
-use Rattle.session.specs.Passes.{pairs}
+use Rattle.session.specs.inner.Passes.{pairs}
 use Rattle.session.proofs.entry.pairs.Statement.{statement}
 use Rattle.session.proofs.entry.pairs.Tie as tie
 

@@ -5,10 +5,11 @@ use native.Mathlib.Omega.{arith}
 use lib.IntN.{pos}
 use lib.ListN.{getD}
 use mir.Syntax.{w32}
-use Rattle.tree.specs.Every.{every, from}
+use Rattle.tree.specs.inner.Places.{from}
+use Rattle.tree.specs.Every.{every}
 use Rattle.tree.specs.Ranges.{inRange}
 use Rattle.tree.proofs.Every.{from-none, from-more}
-use Rattle.session.specs.Passes.{values}
+use Rattle.session.specs.inner.Passes.{values}
 use Rattle.session.proofs.Limits.{zero-test}
 use Rattle.session.proofs.entry.values.Statement.{statement}
 use Rattle.session.proofs.entry.values.Tie as tie

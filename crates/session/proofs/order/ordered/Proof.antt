@@ -6,7 +6,7 @@ use native.Mathlib.Omega.{arith}
 use borrow.Author.Needs.{needs}
 use Rattle.tree.specs.Every.{every}
 use Rattle.tree.proofs.Every.{every-none, every-more, every-fails}
-use Rattle.session.specs.Passes.{highs, lows, orderedAt, ordered}
+use Rattle.session.specs.inner.Passes.{highs, lows, orderedAt, ordered}
 use Rattle.session.proofs.Keeping.{kept-none, kept-more, high-fails, low-fails, both-hold}
 use Rattle.session.proofs.order.ordered.Statement.{statement}
 use Rattle.session.proofs.order.ordered.Tie as tie

@@ -3,7 +3,8 @@ use mathlib.Core.Path.{_≡_, refl}
 use Prim.Native.Nat.{_-_, _≤_}
 use native.Mathlib.Omega.{arith}
 use lib.Dec.{eqb}
-use Rattle.tree.specs.Every.{every, from}
+use Rattle.tree.specs.inner.Places.{from}
+use Rattle.tree.specs.Every.{every}
 use Rattle.tree.specs.Parents.{parent}
 use Rattle.tree.proofs.Every.{from-none, from-more}
 use Rattle.tree.proofs.entry.zero.Statement.{statement}

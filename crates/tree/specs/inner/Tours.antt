@@ -1,16 +1,13 @@
 -- How a walk goes through a tree, and what it says on the way, in order.
 use mathlib.Core.Path.{_≡_}
-use mathlib.Core.Bool.{Bool, true, false, cond, _&&_}
+use mathlib.Core.Bool.{Bool, true, _&&_}
 use mathlib.Core.Logic.{_≢_}
-use mathlib.Core.List.{List, [], _∷_, _++_}
+use mathlib.Core.List.{List, [], _++_}
 use Prim.Native.Nat.{ℕ, zero, suc, _<_}
 use lib.Dec.{eqb}
+use Rattle.tree.specs.Kept.{when, kept}
 use Rattle.tree.specs.Sides.{adjacent, other}
 use Rattle.tree.specs.Turns.{round}
-
--- l where the test holds
-abbrev pub when : {M : Type 0} → Bool → List M → List M
-when b l = cond b l []
 
 -- at u, come from v, the walk goes on to the other neighbours w where `go w u`: what it says of each of them, in turn
 abbrev pub onward : {M : Type 0} → List ℕ → ℕ → (ℕ → ℕ → Bool) → ℕ → ℕ → (ℕ → List M) → List M
@@ -25,18 +22,9 @@ visit ps n go before after (suc k) u v = before u v ++ (onward ps n go u v (λ w
 abbrev pub tour : {M : Type 0} → List ℕ → ℕ → (ℕ → ℕ → Bool) → (ℕ → ℕ → List M) → (ℕ → ℕ → List M) → ℕ → ℕ → List M
 tour ps n go before after k x = onward ps n go x x (λ w. visit ps n go before after k w x)
 
--- The test of a walk is closed outward: where it lets the walk go to r from u, it lets it go to u from any other neighbour v.
+-- The test of a walk is closed inward: where it lets the walk go to r from u, it lets it go to u from any other neighbour v, so that the walk can have come to u.
 abbrev pub Closed : List ℕ → ℕ → (ℕ → ℕ → Bool) → Type 0
 Closed ps n go = (r u v : ℕ) → r < n → u < n → v < n → adjacent ps r u ≡ true → adjacent ps v u ≡ true → r ≢ v → go r u ≡ true → go u v ≡ true
-
--- those elements of a list that pass the test, in order
-abbrev pub keepIf : {M : Type 0} → Bool → M → List M → List M
-keepIf true m l = m ∷ l
-keepIf false m l = l
-
-unfoldable pub kept : {M : Type 0} → (M → Bool) → List M → List M
-kept test [] = []
-kept test (m ∷ l) = keepIf (test m) m (kept test l)
 
 -- What is said on going to w from u is about the pair (w,u) and no other; `about a b` tests what is said of (a,b).
 abbrev pub OfItsPair : {M : Type 0} → List ℕ → ℕ → (ℕ → ℕ → M → Bool) → (ℕ → ℕ → List M) → Type 0

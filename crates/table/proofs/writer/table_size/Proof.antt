@@ -1,15 +1,15 @@
--- `writer::size` meets its contract: the place goes from field to field.
+-- `writer::table_size` meets its contract: the place goes from field to field.
 use Prim.Native.Nat.{_-_, _<_}
 use mathlib.Core.Path.{_≡_, sym}
 use native.Mathlib.Numerals.{add-one}
 use native.Mathlib.Omega.{arith}
-use Rattle.table.specs.Layout.{place}
+use Rattle.table.specs.Layout.{parentPlace}
 use Rattle.table.proofs.Widths.{long-le, place-zero, place-suc, place-le}
-use Rattle.table.proofs.writer.size.Statement.{statement}
-use Rattle.table.proofs.writer.size.Tie as tie
+use Rattle.table.proofs.writer.table_size.Statement.{statement}
+use Rattle.table.proofs.writer.table_size.Tie as tie
 
 abbrev Inv-loop : tie.InvT-loop
-Inv-loop count place₀ k₀ at k = (k < count) × (at ≡ place k)
+Inv-loop count place₀ k₀ at k = (k < count) × (at ≡ parentPlace k)
 
 abbrev μ-loop : tie.MeasureT-loop
 μ-loop count place₀ k₀ at k = count - k
@@ -41,8 +41,8 @@ add-result c = omega (arith, place-le (c .before .loop .k) (omega arith))
 returns : tie.Need-returns Inv-loop μ-loop
 returns c = let e : c .before .loop .k ≡ c .before .before .args .count - 1 = omega arith in rw (← e, ← c .before .loop .inv .1)
 
-pub size-spec : {M : Type 1} → statement M
-size-spec =
+pub table-size-spec : {M : Type 1} → statement M
+table-size-spec =
     tie.close
     (tie.spec
     Inv-loop

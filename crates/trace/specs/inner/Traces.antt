@@ -6,10 +6,10 @@ use lib.Dec.{ltb}
 use lib.ListN.{getD, set, length}
 use Rattle.messages.specs.Records.{fits, coded}
 use Rattle.messages.specs.Reading.{decoded}
-use Rattle.messages.specs.Writing.{writtenOf, logAfter, logged, bitsOfAll, roomForAll}
+use Rattle.messages.specs.Writing.{recordedOf, logAfter, logged, bitsOfAll, roomForAll}
 use Rattle.messages.specs.declared.Message.{Message}
-use Rattle.messages.specs.declared.Written.{Written}
-use Rattle.messages.specs.declared.Written.the-variants.{Next, Full, Misfit}
+use Rattle.messages.specs.declared.Recorded.{Recorded}
+use Rattle.messages.specs.declared.Recorded.the-variants.{Next, Full, Misfit}
 use Rattle.trace.specs.declared.Logged.{Logged}
 use Rattle.trace.specs.declared.Logged.the-variants as logging
 
@@ -62,14 +62,14 @@ abbrev pub writing : List ℕ → ℕ → Writing
 writing s at = record { log = s; place = at }
 
 -- the place after a message was written; as it was where it was not
-abbrev pub placed : Written → ℕ → ℕ
+abbrev pub placed : Recorded → ℕ → ℕ
 placed (Next next) place = next
 placed Full place = place
 placed Misfit place = place
 
 -- one message written, and message by message
 abbrev pub noted : Message → Writing → Writing
-noted m w = writing (logAfter (w .log) (w .place) m) (placed (writtenOf (length (w .log)) (w .place) m) (w .place))
+noted m w = writing (logAfter (w .log) (w .place) m) (placed (recordedOf (length (w .log)) (w .place) m) (w .place))
 
 unfoldable pub notedAll : List Message → Writing → Writing
 notedAll [] w = w

@@ -18,9 +18,9 @@ pub record Starting (s : Session) (list : List ℕ) (places count first : ℕ) :
   pub begins : first ≡ judgedOf list .first
 
 -- there is an answer place for a combine
-abbrev pub Placed : Request → ℕ → ℕ → Type 0
-Placed (Combine x) k places = k < places
-Placed (Write x v) k places = Unit
+abbrev pub HasPlace : Request → ℕ → ℕ → Type 0
+HasPlace (Combine x) k places = k < places
+HasPlace (Write x v) k places = Unit
 
 -- one more request, its answers and its messages can be counted
 pub record Addable (t : Totals) (k : ℕ) (o : Outcome) : Type 0 where

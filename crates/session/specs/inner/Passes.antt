@@ -5,7 +5,8 @@ use Prim.Native.Nat.{ℕ, zero, suc, _-_, min, max}
 use lib.Dec.{eqb, leb}
 use lib.IntN.{ℤ, pos}
 use lib.ListN.{getD, set}
-use Rattle.tree.specs.Every.{every, from, places}
+use Rattle.tree.specs.inner.Places.{from, places}
+use Rattle.tree.specs.Every.{every}
 use Rattle.tree.specs.Parents.{parent}
 use Rattle.tree.specs.Ranges.{inRange}
 

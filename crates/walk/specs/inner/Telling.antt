@@ -15,9 +15,9 @@ use Rattle.tree.specs.Turns.{turn}
 use Rattle.session.specs.Soundness.{Ordered}
 use Rattle.mechanism.specs.Views.{View}
 use Rattle.mechanism.specs.Spreading.{addIf, sends, spread}
-use Rattle.trace.specs.Traces.{Trace, pushedAll}
-use Rattle.walk.specs.Links.{Linked, neighbourAt}
-use Rattle.walk.specs.Laters.{known, Passed}
+use Rattle.trace.specs.inner.Traces.{Trace, pushedAll}
+use Rattle.walk.specs.inner.Links.{Linked, neighbourAt}
+use Rattle.walk.specs.inner.Laters.{known, Passed}
 
 -- a view on which a write's walk can go: values and leased caches are in range, and neighbouring numbers in order
 pub record Steady (q : View) : Type 0 where

@@ -1,32 +1,34 @@
 -- A request as an act at a node, served in place: what the functions that do so ask for, and what they leave.
 use mathlib.Core.Path.{_≡_}
+use mathlib.Core.Bool.{cond}
 use mathlib.Core.List.{List}
 use Prim.Native.Nat.{ℕ, _<_}
+use lib.Dec.{ltb}
 use lib.IntN.{ℤ, pos}
 use lib.ListN.{length, set}
 use Rattle.tree.specs.Operation.{sum}
 use Rattle.requests.specs.declared.Request.{Request}
 use Rattle.requests.specs.declared.Request.the-variants as request
 use Rattle.session.specs.Holding.{Typed}
-use Rattle.session.specs.Soundness.{Sound}
+use Rattle.session.specs.Soundness.{limit, Sound}
 use Rattle.session.specs.declared.Session.{Session}
 use Rattle.mechanism.specs.Views.{View}
 use Rattle.mechanism.specs.Combining.{Said, said, combine}
 use Rattle.mechanism.specs.Spreading.{write}
 use Rattle.mechanism.specs.Applying.{upRaised, downRaised}
-use Rattle.trace.specs.Traces.{Trace, pushedAll}
-use Rattle.walk.specs.Asking.{Fit}
-use Rattle.walk.specs.Links.{Linked}
-use Rattle.walk.specs.Telling.{Steady}
+use Rattle.trace.specs.inner.Traces.{Trace, pushedAll}
+use Rattle.walk.specs.inner.Asking.{SumsFit}
+use Rattle.walk.specs.inner.Links.{Linked}
+use Rattle.walk.specs.inner.Telling.{Steady}
 use Rattle.aggregate.specs.declared.Outcome.{Outcome}
 use Rattle.aggregate.specs.declared.Served.{Served}
 use Rattle.aggregate.specs.declared.act.Act.{Act}
 use Rattle.aggregate.specs.declared.act.Act.the-variants.{Combine, Write}
 
 -- the request of an act at x
-abbrev pub requestAt : ℕ → Act → Request
-requestAt x Combine = request.Combine x
-requestAt x (Write z) = request.Write x z
+abbrev pub requestOf : ℕ → Act → Request
+requestOf x Combine = request.Combine x
+requestOf x (Write z) = request.Write x z
 
 -- an outcome, and the session whose parts were left with it
 abbrev pub servedAs : Outcome → Session → Served
@@ -39,6 +41,10 @@ pub record Servable (s : Session) (first next : List ℕ) : Type 0 where
   pub linked : Linked (s .tree .count) (s .tree .parents) first next
 
 -- ---- the steps of an act
+
+-- the refusal of a request to a sound session before its walk: 7, then 8
+unfoldable pub earlyRefusal : ℕ → ℕ → ℕ → ℕ
+earlyRefusal count accepted x = cond (ltb x count) (cond (ltb accepted limit) 0 8) 7
 
 -- a write sets its value
 abbrev pub begun : Act → ℕ → List ℤ → List ℤ
@@ -53,7 +59,7 @@ walked (Write z) q x = said (pos 0) (write sum q x)
 -- either walk can be made from x
 pub record Walkable (q : View) (first next : List ℕ) (x : ℕ) : Type 0 where
   pub inside : x < q .count
-  pub fit : Fit q
+  pub fit : SumsFit q
   pub steady : Steady q
   pub linked : Linked (q .count) (q .parents) first next
 

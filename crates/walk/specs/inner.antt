@@ -1,0 +1,5 @@
+-- What the functions of the walks hand each other: links, what a combine's walk asks for and leaves, what comes after each neighbour, and a write's walk.
+pub mod Links
+pub mod Asking
+pub mod Laters
+pub mod Telling
