@@ -1,15 +1,17 @@
--- The cases marked P hold by computation.
-use mathlib.Core.Path.{_≡_, refl}
+-- The cases marked P hold by computation; that a run's log reads as what was said is `run-logged`.
+use mathlib.Core.Path.{_≡_, refl, ap, _∙_}
 use mathlib.Core.List.{List, [], _∷_}
-use lib.IntN.{pos}
+use Prim.Native.Nat.{ℕ}
+use native.Mathlib.Omega.{arith}
+use lib.IntN.{ℤ, pos}
 use lib.ListN.{replicate}
-use Rattle.session.specs.Starting.{freshOf}
-use Rattle.session.specs.declared.Session.{Session}
-use Rattle.aggregate.specs.declared.Ran.{Ran}
-use Rattle.messages.specs.declared.Message.{Message}
 use lib.Count.{leadingZeros}
 use Rattle.aggregate.specs.Serving.{servedOf, logOf}
 use Rattle.aggregate.specs.Running as running
+use Rattle.aggregate.specs.declared.Totals.{Totals}
+use Rattle.aggregate.specs.declared.Ran.{Ran}
+use Rattle.aggregate.proofs.Listing.{all-done}
+use Rattle.aggregate.proofs.Speaking.{run-logged}
 use Rattle.fields.specs.Bits.{weight, digit, patch, bit, putBit}
 use Rattle.fields.specs.Fields.{field, putField}
 use Rattle.twos.specs.Twos.{signed}
@@ -21,53 +23,86 @@ use Rattle.mechanism.specs.Refusals as refusals
 use Rattle.messages.specs.Records.{kindOf, widthOf, recordOf}
 use Rattle.messages.specs.Reading.{messageOf, messageAt, entryOf, entryAt, messagesFrom}
 use Rattle.messages.specs.Writing.{logAfter, logged, bitsOfAll}
+use Rattle.messages.specs.declared.Message.{Message}
+use Rattle.messages.specs.declared.Message.the-variants.{Probe, Response, Update, Release}
+use Rattle.messages.proofs.Listing.{messages-of-read}
+use Rattle.mechanism.proofs.Starts.{fresh-right}
 use Rattle.packed.specs.Parts.{ends}
 use Rattle.requests.specs.Reading as lists
 use Rattle.session.specs.Holding.{pairAt}
+use Rattle.session.specs.Starting.{freshOf}
+use Rattle.session.specs.declared.Session.{Session}
 use Rattle.session.specs.Soundness.{inLimits, sound}
 use Rattle.table.specs.Layout.{long, parentPlace}
 use Rattle.table.specs.Reading.{nodesFault, refusalOf, parentsOf, readingOf}
 use Rattle.tree.specs.Every.{every}
 use Rattle.tree.specs.Parents.{entryInRule, inRule}
+use Rattle.tree.specs.Operation.{sum}
 use Rattle.tree.specs.Ranges.{inRange}
 use Rattle.tree.specs.Sides.{climb, below}
 use Rattle.tree.specs.Turns.{turn, joined}
-use Rattle.proved.specs.Proved.{replies, end, grown, empty, held, outcome, path-list, star, path, path-in-one-call, cases, All-hold}
+use Rattle.proved.specs.Proved.{Holding, runs, empty, replies, end, held, outcome, grown, path-list, star, path, path-in-one-call, cases, All-hold}
+
+-- ---- requests one by one
 
 star-holds : outcome (star .input) ≡ star .output
-unfolding leadingZeros weight digit patch bit putBit field putField signed kindOf widthOf recordOf messageOf messageAt entryOf entryAt logAfter ends long parentPlace nodesFault refusalOf parentsOf readingOf lists.requestAt lists.nextPlace lists.placeOf lists.requestsFrom lists.combinesTo lists.refusalOf lists.judgedOf replies end servedOf logOf logged messagesFrom running.done running.runs running.listRefusal running.ranOf running.answersOf running.runLogOf heard stepIf sofar ask total sends spread hit cell put applied each upRaised downRaised raised combines writes afterCombine afterWrite refusals.allFit refusals.refusalOf bitsOfAll pairAt inLimits sound every entryInRule inRule inRange climb below turn joined
+unfolding leadingZeros weight digit patch bit putBit field putField signed kindOf widthOf recordOf messageOf messageAt entryOf entryAt logAfter ends long parentPlace nodesFault refusalOf parentsOf readingOf lists.requestAt lists.nextPlace lists.placeOf lists.requestsFrom lists.combinesTo lists.refusalOf lists.judgedOf replies end servedOf logOf logged messagesFrom running.spokenIn running.done running.runs running.listRefusal running.ranOf running.answersOf running.runLogOf heard stepIf sofar ask total sends spread hit cell put applied each upRaised downRaised raised combines writes afterCombine afterWrite refusals.allFit refusals.refusalOf bitsOfAll pairAt inLimits sound every entryInRule inRule inRange climb below turn joined
 star-holds = refl
 
 path-holds : outcome (path .input) ≡ path .output
-unfolding leadingZeros weight digit patch bit putBit field putField signed kindOf widthOf recordOf messageOf messageAt entryOf entryAt logAfter ends long parentPlace nodesFault refusalOf parentsOf readingOf lists.requestAt lists.nextPlace lists.placeOf lists.requestsFrom lists.combinesTo lists.refusalOf lists.judgedOf replies end servedOf logOf logged messagesFrom running.done running.runs running.listRefusal running.ranOf running.answersOf running.runLogOf heard stepIf sofar ask total sends spread hit cell put applied each upRaised downRaised raised combines writes afterCombine afterWrite refusals.allFit refusals.refusalOf bitsOfAll pairAt inLimits sound every entryInRule inRule inRange climb below turn joined
+unfolding leadingZeros weight digit patch bit putBit field putField signed kindOf widthOf recordOf messageOf messageAt entryOf entryAt logAfter ends long parentPlace nodesFault refusalOf parentsOf readingOf lists.requestAt lists.nextPlace lists.placeOf lists.requestsFrom lists.combinesTo lists.refusalOf lists.judgedOf replies end servedOf logOf logged messagesFrom running.spokenIn running.done running.runs running.listRefusal running.ranOf running.answersOf running.runLogOf heard stepIf sofar ask total sends spread hit cell put applied each upRaised downRaised raised combines writes afterCombine afterWrite refusals.allFit refusals.refusalOf bitsOfAll pairAt inLimits sound every entryInRule inRule inRange climb below turn joined
 path-holds = refl
 
 -- ---- the path's list in one call
 
-abbrev three : Session
-three = freshOf (grown (0 ∷ 0 ∷ 1 ∷ []))
+abbrev fresh : Session
+fresh = freshOf (grown (0 ∷ 0 ∷ 1 ∷ []))
+
+abbrev places : List ℤ
+places = replicate 3 (pos 0)
 
 abbrev ended : Ran
-ended = running.ranOf three path-list (replicate 3 (pos 0)) (empty 86) 0
+ended = running.ranOf fresh path-list places (empty 86) 0
 
 refusal-is : ended .refusal ≡ 0
-unfolding leadingZeros weight digit patch bit putBit field putField signed kindOf widthOf recordOf messageOf messageAt entryOf entryAt logAfter ends long parentPlace nodesFault refusalOf parentsOf readingOf lists.requestAt lists.nextPlace lists.placeOf lists.requestsFrom lists.combinesTo lists.refusalOf lists.judgedOf replies end servedOf logOf logged messagesFrom running.done running.runs running.listRefusal running.ranOf running.answersOf running.runLogOf heard stepIf sofar ask total sends spread hit cell put applied each upRaised downRaised raised combines writes afterCombine afterWrite refusals.allFit refusals.refusalOf bitsOfAll pairAt inLimits sound every entryInRule inRule inRange climb below turn joined
+unfolding leadingZeros weight digit patch bit putBit field putField signed kindOf widthOf recordOf messageOf messageAt entryOf entryAt logAfter ends long parentPlace nodesFault refusalOf parentsOf readingOf lists.requestAt lists.nextPlace lists.placeOf lists.requestsFrom lists.combinesTo lists.refusalOf lists.judgedOf replies end servedOf logOf logged messagesFrom running.spokenIn running.done running.runs running.listRefusal running.ranOf running.answersOf running.runLogOf heard stepIf sofar ask total sends spread hit cell put applied each upRaised downRaised raised combines writes afterCombine afterWrite refusals.allFit refusals.refusalOf bitsOfAll pairAt inLimits sound every entryInRule inRule inRange climb below turn joined
 refusal-is = refl
 
 index-is : ended .index ≡ 0
-unfolding leadingZeros weight digit patch bit putBit field putField signed kindOf widthOf recordOf messageOf messageAt entryOf entryAt logAfter ends long parentPlace nodesFault refusalOf parentsOf readingOf lists.requestAt lists.nextPlace lists.placeOf lists.requestsFrom lists.combinesTo lists.refusalOf lists.judgedOf replies end servedOf logOf logged messagesFrom running.done running.runs running.listRefusal running.ranOf running.answersOf running.runLogOf heard stepIf sofar ask total sends spread hit cell put applied each upRaised downRaised raised combines writes afterCombine afterWrite refusals.allFit refusals.refusalOf bitsOfAll pairAt inLimits sound every entryInRule inRule inRange climb below turn joined
-index-is = refl
+index-is = all-done fresh path-list places (empty 86) 0 refusal-is .0
 
 totals-are : ended .totals ≡ record { requests = 6; answers = 3; messages = 16; next = 688 }
-unfolding leadingZeros weight digit patch bit putBit field putField signed kindOf widthOf recordOf messageOf messageAt entryOf entryAt logAfter ends long parentPlace nodesFault refusalOf parentsOf readingOf lists.requestAt lists.nextPlace lists.placeOf lists.requestsFrom lists.combinesTo lists.refusalOf lists.judgedOf replies end servedOf logOf logged messagesFrom running.done running.runs running.listRefusal running.ranOf running.answersOf running.runLogOf heard stepIf sofar ask total sends spread hit cell put applied each upRaised downRaised raised combines writes afterCombine afterWrite refusals.allFit refusals.refusalOf bitsOfAll pairAt inLimits sound every entryInRule inRule inRange climb below turn joined
+unfolding leadingZeros weight digit patch bit putBit field putField signed kindOf widthOf recordOf messageOf messageAt entryOf entryAt logAfter ends long parentPlace nodesFault refusalOf parentsOf readingOf lists.requestAt lists.nextPlace lists.placeOf lists.requestsFrom lists.combinesTo lists.refusalOf lists.judgedOf replies end servedOf logOf logged messagesFrom running.spokenIn running.done running.runs running.listRefusal running.ranOf running.answersOf running.runLogOf heard stepIf sofar ask total sends spread hit cell put applied each upRaised downRaised raised combines writes afterCombine afterWrite refusals.allFit refusals.refusalOf bitsOfAll pairAt inLimits sound every entryInRule inRule inRange climb below turn joined
 totals-are = refl
 
-answers-are : running.answersOf three path-list (replicate 3 (pos 0)) (empty 86) 0 ≡ pos 0 ∷ pos 5 ∷ pos 9 ∷ []
-unfolding leadingZeros weight digit patch bit putBit field putField signed kindOf widthOf recordOf messageOf messageAt entryOf entryAt logAfter ends long parentPlace nodesFault refusalOf parentsOf readingOf lists.requestAt lists.nextPlace lists.placeOf lists.requestsFrom lists.combinesTo lists.refusalOf lists.judgedOf replies end servedOf logOf logged messagesFrom running.done running.runs running.listRefusal running.ranOf running.answersOf running.runLogOf heard stepIf sofar ask total sends spread hit cell put applied each upRaised downRaised raised combines writes afterCombine afterWrite refusals.allFit refusals.refusalOf bitsOfAll pairAt inLimits sound every entryInRule inRule inRange climb below turn joined
+answers-are : running.answersOf fresh path-list places (empty 86) 0 ≡ pos 0 ∷ pos 5 ∷ pos 9 ∷ []
+unfolding leadingZeros weight digit patch bit putBit field putField signed kindOf widthOf recordOf messageOf messageAt entryOf entryAt logAfter ends long parentPlace nodesFault refusalOf parentsOf readingOf lists.requestAt lists.nextPlace lists.placeOf lists.requestsFrom lists.combinesTo lists.refusalOf lists.judgedOf replies end servedOf logOf logged messagesFrom running.spokenIn running.done running.runs running.listRefusal running.ranOf running.answersOf running.runLogOf heard stepIf sofar ask total sends spread hit cell put applied each upRaised downRaised raised combines writes afterCombine afterWrite refusals.allFit refusals.refusalOf bitsOfAll pairAt inLimits sound every entryInRule inRule inRange climb below turn joined
 answers-are = refl
 
 held-is : held (ended .session) ≡ record { up-leases = 0 ∷ 2 ∷ 2 ∷ []; up-messages = 0 ∷ 8 ∷ 8 ∷ []; down-leases = 0 ∷ 0 ∷ 0 ∷ []; down-messages = 0 ∷ 0 ∷ 0 ∷ [] }
-unfolding leadingZeros weight digit patch bit putBit field putField signed kindOf widthOf recordOf messageOf messageAt entryOf entryAt logAfter ends long parentPlace nodesFault refusalOf parentsOf readingOf lists.requestAt lists.nextPlace lists.placeOf lists.requestsFrom lists.combinesTo lists.refusalOf lists.judgedOf replies end servedOf logOf logged messagesFrom running.done running.runs running.listRefusal running.ranOf running.answersOf running.runLogOf heard stepIf sofar ask total sends spread hit cell put applied each upRaised downRaised raised combines writes afterCombine afterWrite refusals.allFit refusals.refusalOf bitsOfAll pairAt inLimits sound every entryInRule inRule inRange climb below turn joined
+unfolding leadingZeros weight digit patch bit putBit field putField signed kindOf widthOf recordOf messageOf messageAt entryOf entryAt logAfter ends long parentPlace nodesFault refusalOf parentsOf readingOf lists.requestAt lists.nextPlace lists.placeOf lists.requestsFrom lists.combinesTo lists.refusalOf lists.judgedOf replies end servedOf logOf logged messagesFrom running.spokenIn running.done running.runs running.listRefusal running.ranOf running.answersOf running.runLogOf heard stepIf sofar ask total sends spread hit cell put applied each upRaised downRaised raised combines writes afterCombine afterWrite refusals.allFit refusals.refusalOf bitsOfAll pairAt inLimits sound every entryInRule inRule inRange climb below turn joined
 held-is = refl
 
+-- what was said in the call's requests, and so what its log reads as
+spoken-is : running.spokenOf fresh path-list places (empty 86) 0
+    ≡ Probe 0 1 ∷ Probe 1 2 ∷ Response 2 1 (pos 0) ∷ Response 1 0 (pos 0) ∷ Update 2 1 (pos 5) ∷ Update 1 0 (pos 5) ∷ Update 2 1 (pos 7) ∷ Update 1 0 (pos 7)
+    ∷ Update 2 1 (pos 9) ∷ Update 1 0 (pos 9) ∷ Release 0 1 ∷ Release 1 2 ∷ Probe 0 1 ∷ Probe 1 2 ∷ Response 2 1 (pos 9) ∷ Response 1 0 (pos 9) ∷ []
+unfolding leadingZeros weight digit patch bit putBit field putField signed kindOf widthOf recordOf messageOf messageAt entryOf entryAt logAfter ends long parentPlace nodesFault refusalOf parentsOf readingOf lists.requestAt lists.nextPlace lists.placeOf lists.requestsFrom lists.combinesTo lists.refusalOf lists.judgedOf replies end servedOf logOf logged messagesFrom running.spokenIn running.done running.runs running.listRefusal running.ranOf running.answersOf running.runLogOf heard stepIf sofar ask total sends spread hit cell put applied each upRaised downRaised raised combines writes afterCombine afterWrite refusals.allFit refusals.refusalOf bitsOfAll pairAt inLimits sound every entryInRule inRule inRange climb below turn joined
+spoken-is = refl
 
+reads-as : messagesFrom (ended .totals .next) (running.runLogOf fresh path-list places (empty 86) 0) 0 (ended .totals .next) ≡ running.spokenOf fresh path-list places (empty 86) 0
+reads-as =
+    messages-of-read _ _ _ _
+    (run-logged fresh path-list places (empty 86) 0 (fresh-right sum (grown (0 ∷ 0 ∷ 1 ∷ [])) refl .0) (rw (ap (λ (t : Totals). t .requests) totals-are) (omega arith)) .0)
+
+same : (a a′ b b′ : ℕ) (c c′ : Totals) (d d′ : List ℤ) (e e′ : List Message) (f f′ : Holding) → a ≡ a′ → b ≡ b′ → c ≡ c′ → d ≡ d′ → e ≡ e′ → f ≡ f′ → runs a b c d e f ≡ runs a′ b′ c′ d′ e′ f′
+same a a′ b b′ c c′ d d′ e e′ f f′ p q r s t u = rw (p, q, r, s, t, u)
+
+one-call-holds : outcome (path-in-one-call .input) ≡ path-in-one-call .output
+one-call-holds = same _ _ _ _ _ _ _ _ _ _ _ _ refusal-is index-is totals-are answers-are (reads-as ∙ spoken-is) held-is
+
+-- ---- the table
+
+pub all-hold : All-hold
+unfolding cases leadingZeros weight digit patch bit putBit field putField signed kindOf widthOf recordOf messageOf messageAt entryOf entryAt logAfter ends long parentPlace nodesFault refusalOf parentsOf readingOf lists.requestAt lists.nextPlace lists.placeOf lists.requestsFrom lists.combinesTo lists.refusalOf lists.judgedOf replies end servedOf logOf logged messagesFrom running.spokenIn running.done running.runs running.listRefusal running.ranOf running.answersOf running.runLogOf heard stepIf sofar ask total sends spread hit cell put applied each upRaised downRaised raised combines writes afterCombine afterWrite refusals.allFit refusals.refusalOf bitsOfAll pairAt inLimits sound every entryInRule inRule inRange climb below turn joined
+all-hold = (refl, (refl, (refl, (refl, (refl, (refl, (refl, (refl, (refl, (refl, (refl, (refl, (refl, (refl, (refl, (star-holds, (refl, (refl, (path-holds, (one-call-holds, tt))))))))))))))))))))

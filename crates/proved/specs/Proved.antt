@@ -69,7 +69,7 @@ abbrev pub replied : Session → Request → Reply
 replied s r =
     record {
       answer = servedOf s r 64 0 .outcome;
-      logged = messagesFrom 16 (logOf s r (empty 64) 0) 0 (servedOf s r 64 0 .outcome .next);
+      logged = messagesFrom (servedOf s r 64 0 .outcome .next) (logOf s r (empty 64) 0) 0 (servedOf s r 64 0 .outcome .next);
     }
 
 unfoldable pub replies : Session → List Request → List Reply
