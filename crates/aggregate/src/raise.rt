@@ -16,10 +16,12 @@ pub fn raise(count: usize, parents: &[u8; 256], x: usize, up: &mut [u8; 256], do
     while 1 < i {
         i -= 1;
         if i == at {
-            down[i] = Rule::after_combines(down[i], 1);
+            let number = down[i];
+            down[i] = Rule::after_combines(number, 1);
             at = reads::node(parents[i]);
         } else {
-            up[i] = Rule::after_combines(up[i], 1);
+            let number = up[i];
+            up[i] = Rule::after_combines(number, 1);
         }
     }
 }

@@ -20,8 +20,8 @@ loop-holds c = climbed-none (c .pre)
 sub-i : tie.Need-sub-i Inv-loop μ-loop
 sub-i c = search needs
 
-element-copy-out-after-combines : tie.Need-element-copy-out-after-combines Inv-loop μ-loop
-element-copy-out-after-combines c = search needs
+element-copy-out-number : tie.Need-element-copy-out-number Inv-loop μ-loop
+element-copy-out-number c = search needs
 
 after-combines-requires : tie.Need-after-combines-requires Inv-loop μ-loop
 after-combines-requires c κs = search needs
@@ -44,8 +44,8 @@ loop-again c =
     let e : l .loop .i ≡ suc (l .loop .i - 1) = omega arith in
     rw (c .node .ensures .0, c .before .before .after-combines .ensures ∙ after-combine _) (climbed-on (l .before .pre) (l .loop .inv) e (omega arith) (c .before .before .before .before .if1 .taken))
 
-element-copy-out-after-combines-2 : tie.Need-element-copy-out-after-combines-2 Inv-loop μ-loop
-element-copy-out-after-combines-2 c = search needs
+element-copy-out-number-2 : tie.Need-element-copy-out-number-2 Inv-loop μ-loop
+element-copy-out-number-2 c = search needs
 
 after-combines-requires-2 : tie.Need-after-combines-requires-2 Inv-loop μ-loop
 after-combines-requires-2 c κs = search needs
@@ -73,14 +73,14 @@ raise-spec =
     μ-loop
     loop-holds
     sub-i
-    element-copy-out-after-combines
+    element-copy-out-number
     after-combines-requires
     element-write-down
     element-copy-out-node
     node-requires
     loop-less
     loop-again
-    element-copy-out-after-combines-2
+    element-copy-out-number-2
     after-combines-requires-2
     element-write-up
     loop-less-2
