@@ -2,8 +2,8 @@
 //
 // The table is the file `tree.tab` and the list the file `requests.lst`, both of the current folder.
 // Of each file at most one byte more is read than the longest that can be accepted has: 225 bytes of
-// table, 20,994 of list. That decides as the whole file does, since no field is due behind those, and
-// of a longer file bytes are left over either way.
+// table, 20,994 of list. That decides as the whole file does (`Table-first-bytes` and
+// `List-first-bytes`).
 mod files; // reading a file
 mod serve; // the requests of a list
 mod show; // printing
