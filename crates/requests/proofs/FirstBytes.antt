@@ -8,7 +8,7 @@ use native.Mathlib.Omega.{arith}
 use lib.ListN.{length, take}
 use lib.Seq.{length-take-le, take-all}
 use Rattle.fields.proofs.FirstBytes.{read-of-first}
-use Rattle.requests.specs.Format.{Counted, Ruled, no-count, bad-count, no-request, left-over, whole}
+use Rattle.requests.specs.Format.{Ruled, no-count, bad-count, no-request, left-over, whole}
 use Rattle.requests.specs.Promises.{List-first-bytes}
 use Rattle.requests.specs.Reading.{countAt, placeOf, judgedOf}
 use Rattle.requests.proofs.Places.{place-most}

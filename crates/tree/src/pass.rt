@@ -2,7 +2,7 @@
 use crate::edge;
 use crate::entry;
 ghost use mathlib.Core.Path.{_≡_};
-ghost use Prim.Native.Nat.{_≤_, _<_};
+ghost use Prim.Native.Nat.{_≤_};
 ghost use Rattle.tree.specs.Parents.{Grown};
 ghost use Rattle.tree.specs.Sizes as spec;
 ghost use Rattle.tree.specs.Sizes.{sizeBelow, listed, ones};
