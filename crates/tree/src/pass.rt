@@ -34,7 +34,7 @@ pub fn summed(count: usize, parents: &[u8; 256]) -> [u16; 256]
     size
 }
 
-// Every node by itself.
+// The sizes of nodes with none below them: 1 for each node, 0 where there is none.
 pub fn alone(count: usize) -> [u16; 256]
     requires { ⌜ count ≤ 256 ⌝ }
     ensures { λ r. ⌜ r ≡ listed (ones count) 256 ⌝ }
