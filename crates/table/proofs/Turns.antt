@@ -15,7 +15,7 @@ use Rattle.packed.specs.Parts.{ends}
 use Rattle.table.specs.Layout.{long, parentPlace, parentAt}
 use Rattle.table.specs.Format.{Counted, GoodParents, no-count, bad-count, no-parent, bad-parent}
 use Rattle.table.specs.Reading.{parentsOf, refused, readingOf}
-use Rattle.table.proofs.Widths.{long-le, place-zero, place-suc, place-le}
+use Rattle.table.proofs.Widths.{long-le, place-zero, place-suc, field-near}
 use Rattle.table.proofs.Verdicts.{right-none, right-more, ruled-end, reading-refused, reading-accepted}
 
 -- nodes 1 to k are read and right
@@ -34,7 +34,7 @@ module _ (s : List ℕ) (n : ℕ) (c : Counted s n) where
     -- at the field of node k + 1
     module _ (l : k + 1 < n) (w : ℕ) (e : w ≡ long k) where
       pub near : at + w ≤ 524288
-      near = omega (arith, long-le k (omega (arith, c .few)), place-le k (omega (arith, c .few)), i .here)
+      near = field-near k at w (omega (arith, c .few)) (i .here) e
 
       after : parentPlace (suc k) ≡ at + w
       after = omega (arith, place-suc k, i .here)
