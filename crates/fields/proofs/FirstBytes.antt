@@ -16,7 +16,7 @@ unfolding bit
 read-of-first n s place w h =
     same-field (take n s) s place w (λ k a b. ap (λ (x : ℕ). digit x (weight k)) (getD-take n s (k / 8) 0 (omega arith)))
 
--- an answer that is the same for any two byte lists of n bytes or more with the same fields in their first n
+-- an answer that is the same for any two byte lists of n bytes or more with the same fields in their first n bytes is that of the first n bytes
 pub first-decide : {A : Type 0} (answer : List ℕ → A) (n : ℕ)
     → ((s t : List ℕ) → n ≤ length s → n ≤ length t → ((place w : ℕ) → place + w ≤ 8 * n → field t place w ≡ field s place w) → answer t ≡ answer s)
     → (s : List ℕ) → answer (take n s) ≡ answer s

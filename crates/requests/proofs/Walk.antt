@@ -68,10 +68,10 @@ module _ (s : List ℕ) (n : ℕ) (g : Counted s n) where
       pub went-on : (r : Request) (next more : ℕ) → itemAt s place ≡ Found r next → more ≡ combines + oneIfCombine r → Went s n next more (k + 1)
       went-on r next more e m =
           let f = item-exactly s place next r .0 (ap told e) in
-          rw (add-one k) (record { turns = omega arith; here = f .2 ∙ next-place; inside = omega (arith, f .0, f .2); sum = m ∙ bitsOfParts (f .1) })
+          rw (add-one k) (record { turns = omega arith; here = f .2 ∙ next-place; inside = omega (arith, f .0, f .2); sum = m ∙ combines-next (f .1) })
         where
-          bitsOfParts : r ≡ requestAt s place → combines + oneIfCombine r ≡ combinesTo s (suc k)
-          bitsOfParts e = unfold combinesTo in rw (e, w .sum, w .here)
+          combines-next : r ≡ requestAt s place → combines + oneIfCombine r ≡ combinesTo s (suc k)
+          combines-next e = unfold combinesTo in rw (e, w .sum, w .here)
 
       pub went-short : (number : ℕ) → itemAt s place ≡ Short → number ≡ 1 → judgedOf s ≡ refused number
       went-short number e one =
