@@ -8,7 +8,7 @@ use lib.Dec.{eqb}
 use lib.IntN.{ℤ}
 use lib.ListN.{length, take, length-set}
 use borrow.Author.Tests.{ne-eqb}
-use Rattle.requests.specs.Lists.{Small, Sized, AllSized, combinesIn}
+use Rattle.requests.specs.Lists.{Sized, AllSized, combinesIn}
 use Rattle.requests.specs.declared.Request.{Request}
 use Rattle.requests.specs.declared.Request.the-variants.{Combine, Write}
 use Rattle.aggregate.specs.Running.{Running, inTurn, stored, done, Ended, runs, Serves, all-done, stopped, accepted, spokenIn}

@@ -35,7 +35,7 @@ pub record Running : Type 0 where
 abbrev pub running : Totals → Session → List ℤ → List ℕ → Running
 running t s answers log = record { totals = t; session = s; answers = answers; log = log }
 
--- before the first request
+-- what is handed to the first request
 abbrev pub start : Session → List ℤ → List ℕ → ℕ → Running
 start s answers log place = running (record { requests = 0; answers = 0; messages = 0; next = place }) s answers log
 
@@ -43,12 +43,12 @@ start s answers log place = running (record { requests = 0; answers = 0; message
 abbrev pub inTurn : Request → Running → Served
 inTurn r o = servedOf (o .session) r (length (o .log)) (o .totals .next)
 
--- the answer of a combine goes to the next answer place
+-- the answer places after a request, where the answer of a combine goes to the next one
 abbrev pub stored : Request → ℤ → ℕ → List ℤ → List ℤ
 stored (Combine x) z k answers = set answers k z
 stored (Write x v) z k answers = answers
 
--- one more request done, with so many answers
+-- the totals with one more request done, which has so many answers
 abbrev pub added : ℕ → Outcome → Totals → Totals
 added k o t = record { requests = t .requests + 1; answers = t .answers + k; messages = t .messages + o .messages; next = o .next }
 
@@ -60,7 +60,7 @@ done r o =
     (stored r (inTurn r o .outcome .answer) (o .totals .answers) (o .answers))
     (logOf (o .session) r (o .log) (o .totals .next))
 
--- requests in their order, up to the first that is refused: its number, or 0, and how far they came
+-- what comes of requests in their order, up to the first that is refused: its number, or 0, and how far they came
 pub record Ended : Type 0 where
   pub refusal : ℕ
   pub reached : Running
@@ -76,11 +76,11 @@ unfoldable pub listRefusal : Session → List ℕ → ℕ → ℕ
 listRefusal s list places =
     cond (eqb (judgedOf list .refusal) 0) (cond (leb (judgedOf list .combines) places) (cond (sound 2 s) 0 6) 10) (judgedOf list .refusal)
 
--- a number, how far the list came, and the index of the request that was refused
+-- what running a list answers: the number that ended it, 0 for none, the index of the request that was refused, and how far the list came
 abbrev pub endedAs : ℕ → Totals → Session → Ran
 endedAs n t s = record { refusal = n; index = cond (eqb n 0) 0 (t .requests); totals = t; session = s }
 
--- the number of a refusal and zeros, and the session as it came
+-- what running a list answers where it is refused as a whole: the number of the refusal and zeros, and the session as it came
 abbrev pub refused : ℕ → Session → Ran
 refused n s = record { refusal = n; index = 0; totals = record { requests = 0; answers = 0; messages = 0; next = 0 }; session = s }
 
@@ -101,11 +101,11 @@ answersOf s list answers log place = cond (eqb (listRefusal s list (length answe
 unfoldable pub runLogOf : Session → List ℕ → List ℤ → List ℕ → ℕ → List ℕ
 runLogOf s list answers log place = cond (eqb (listRefusal s list (length answers)) 0) (endOf s list answers log place .reached .log) log
 
--- the list of its first k requests
+-- the list of the first k requests of a list
 abbrev pub earlierOf : List ℕ → ℕ → List ℕ
 earlierOf list k = listOf (take k (requestsOf list))
 
--- ---- the same in document 01's words
+-- ---- running a list in document 01's words
 
 -- a list is refused as a whole: as its reader refuses it, then with 10, then with 6; 0 is no refusal
 pub data Whole (s : Session) (list : List ℕ) (places : ℕ) : ℕ → Type 0 where

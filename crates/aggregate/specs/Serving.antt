@@ -16,29 +16,29 @@ use Rattle.mechanism.specs.Refusals.{refusalOf}
 use Rattle.aggregate.specs.declared.Outcome.{Outcome}
 use Rattle.aggregate.specs.declared.Served.{Served}
 
--- the number of a refusal and zeros, and with them the session as it came
+-- what a refused request answers: its number and zeros, and with them the session as it came
 abbrev pub refusedOutcome : ℕ → Outcome
 refusedOutcome n = record { refusal = n; answer = pos 0; messages = 0; next = 0 }
 
 abbrev pub refused : ℕ → Session → Served
 refused n s = record { outcome = refusedOutcome n; session = s }
 
--- the answer, the messages and the next log place, and the session after
+-- what an accepted request answers: 0, the answer, the messages and the next log place, and the session after
 abbrev pub accepted : ℤ → List Message → ℕ → Session → Served
 accepted z ms place s = record { outcome = record { refusal = 0; answer = z; messages = length ms; next = place + bitsOfAll ms }; session = s }
 
--- what is done where there is no refusal
+-- what a request answers: what is done where its refusal is 0, and else the refusal
 abbrev pub served : ℕ → Served → Session → Served
 served zero done s = done
 served (suc n) done s = refused (suc n) s
 
--- a request to a log of len bytes, from place on
+-- the refusal of a request to a log of len bytes, from place on, and what it answers
 abbrev pub refusal : Session → Request → ℕ → ℕ → ℕ
 refusal s r len place = refusalOf 2 s (nodeOf r) len place (says sum s r .log)
 
 unfoldable pub servedOf : Session → Request → ℕ → ℕ → Served
 servedOf s r len place = served (refusal s r len place) (accepted (says sum s r .sum) (says sum s r .log) place (after sum 2 s r)) s
 
--- the records of the messages from place on; as it was where the request is refused
+-- the log with the records of a request's messages from place on; as it was where the request is refused
 unfoldable pub logOf : Session → Request → List ℕ → ℕ → List ℕ
 logOf s r log place = cond (eqb (refusal s r (length log) place) 0) (logged log place (says sum s r .log)) log

@@ -13,7 +13,8 @@ pub struct Asked {
     pub len: usize,
 }
 
-// u, come from a neighbour or from nowhere, asks its other neighbours in turn.
+// u, come from a neighbour or from nowhere, asks those of its other neighbours in turn from which it
+// holds no lease.
 pub fn ask<'a>(
     count: usize,
     parents: &'a [u8; 256],
@@ -69,7 +70,8 @@ pub fn ask<'a>(
     Asked { sum, len: at }
 }
 
-// One neighbour: left out if u came from it, its cache if it holds a lease, else asked.
+// One neighbour w of u: left out if u came from it; where u holds a lease from w, its cache is taken;
+// else w is asked.
 fn visit<'a>(
     count: usize,
     parents: &'a [u8; 256],

@@ -5,7 +5,7 @@ ghost use Rattle.aggregate.specs.Serving.{refusedOutcome};
 ghost use Rattle.aggregate.specs.inner.Acts.{earlyRefusal};
 use session::Session;
 
-// The refusal of a request before its walk, 0 for none: 9 is known after it.
+// The refusal of a request before its walk, 0 for none: 9 is known after the walk.
 pub fn early_refusal(count: u16, accepted: u32, x: usize) -> u8
     ensures { λ r. ⌜ r ≡ earlyRefusal count accepted x ⌝ }
 {
@@ -18,7 +18,7 @@ pub fn early_refusal(count: u16, accepted: u32, x: usize) -> u8
     0
 }
 
-// The number of a refusal and zeros.
+// What a refused request answers: the number of the refusal and zeros.
 pub fn refused(refusal: u8) -> Outcome
     ensures { λ r. ⌜ r ≡ refusedOutcome refusal ⌝ }
 {

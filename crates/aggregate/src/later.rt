@@ -41,7 +41,7 @@ pub fn of<'a>(
     }
 }
 
-// Zeros for all nodes.
+// Makes the sums of all nodes zero.
 fn clear(count: usize, sums: &mut [i64; 256])
     requires { ⌜ count ≤ 256 ⌝ }
     ensures { λ _. ⌜ Cleared count (now (sums .exit)) ⌝ }
@@ -61,7 +61,7 @@ fn full(sums: &[i64; 256])
     let slice: &[i64] = sums;
 }
 
-// What is known where there is a lease, and nothing where there is none.
+// What is known by a cache: the cache where there is a lease, and nothing where there is none.
 pub fn known(lease: u8, cache: i64) -> i64
     ensures { λ r. ⌜ r ≡ Rattle.walk.specs.inner.Laters.knownBy lease cache ⌝ }
 {

@@ -34,7 +34,7 @@ pub struct Outcome {
     pub next: usize,
 }
 
-// The outcome, and the session after; as it came where the request is refused.
+// The outcome of a request, and the session after; as it came where the request is refused.
 #[repr(C)]
 pub struct Served {
     pub outcome: Outcome,
@@ -80,7 +80,7 @@ pub fn write(session: Session, x: usize, value: i32, log: &mut [u8], place: usiz
 // The requests of a list, each logged where the one before ended, the answers of combines one behind
 // the other in the answer places; up to the first request that is refused, as combine and write
 // refuse it. Refusals of the whole list: those of `requests::judge`, 10 fewer answer places than
-// combines, 6 the session is unsound. That it is sound is tested once.
+// combines, 6 the session is unsound. That the session is sound is tested once.
 pub fn run(session: Session, list: &[u8], answers: &mut [i64], log: &mut [u8], place: usize) -> Ran
     ensures { λ r.
         ⌜ (r ≡ ranOf session (now (list .entry)) (now (answers .entry)) (now (log .entry)) place)

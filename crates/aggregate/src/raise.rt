@@ -5,8 +5,8 @@ ghost use Rattle.mechanism.specs.Applying.{upRaised, downRaised};
 ghost use Rattle.aggregate.specs.inner.Afters.{Climbing};
 use rule::Rule;
 
-// Every pair that points to x gets the number that a combine gives it. `at` is the next node on the way from x to the
-// root: below it lies x, and below no other node of its number or more.
+// Every pair that points to x gets the number that a combine gives it. `at` is the next node on the way
+// from x to the root: below it lies x, and below no other node of its number or more.
 pub fn raise(count: usize, parents: &[u8; 256], x: usize, up: &mut [u8; 256], down: &mut [u8; 256])
     requires { ⌜ Climbing (now parents) count x (now up) (now down) ⌝ }
     ensures { λ _. ⌜ (now (up .exit) ≡ upRaised (now (parents .entry)) count 2 x (now (up .entry))) × (now (down .exit) ≡ downRaised (now (parents .entry)) count 2 x (now (down .entry))) ⌝ }

@@ -18,7 +18,7 @@ pub fn lease(up: &[u8; 256], down: &[u8; 256], u: usize, v: usize) -> u8
     down[v]
 }
 
-// What is held of the pair (u,v).
+// The cache of the pair (u,v): what v knows of u's side.
 pub fn cache(up: &[i64; 256], down: &[i64; 256], u: usize, v: usize) -> i64
     requires { ⌜ (u < 256) × (v < 256) ⌝ }
     ensures { λ r. ⌜ r ≡ pairAt (pos 0) (now (up .entry)) (now (down .entry)) u v ⌝ }
@@ -43,7 +43,7 @@ fn wide(x: i32) -> i64
     x as i64
 }
 
-// The operation.
+// The operation that joins values: the sum.
 pub fn plus(a: i64, b: i64) -> i64
     requires { ⌜ SFits w64 (a +ℤ b) ⌝ }
     ensures { λ r. ⌜ r ≡ a +ℤ b ⌝ }

@@ -16,7 +16,7 @@ ghost use Rattle.aggregate.specs.inner.Acts.{requestOf, servedAs, Servab
 use session::Session;
 use trace::Logged;
 
-// A request to any session: taken apart once, and put together once, whatever comes of it.
+// A request to any session, which is taken apart once and put together once, whatever comes of it.
 pub fn whole(session: Session, x: usize, act: Act, log: &mut [u8], place: usize) -> Served
     ensures { λ r. ⌜ (r ≡ servedOf session (requestOf x act) (length (now (log .entry))) place) × (now (log .exit) ≡ logOf session (requestOf x act) (now (log .entry)) place) ⌝ }
 {

@@ -97,7 +97,7 @@ fn is_silent<'a>(
     true
 }
 
-// u, told by a neighbour or by nobody, tells its other neighbours in turn.
+// u, told by a neighbour or by nobody, tells those of its other neighbours in turn that hold a lease.
 fn spread<'a>(
     count: usize,
     parents: &'a [u8; 256],
@@ -159,8 +159,8 @@ fn spread<'a>(
     at
 }
 
-// One neighbour: left out if it told u, told if it holds a lease. `sum` is u's value, what u was told
-// and what it knows of the neighbours before w; what it knows of those after w was laid by.
+// One neighbour w of u: left out if it told u, told if it holds a lease. `sum` is u's value, what u
+// was told and what it knows of the neighbours before w; what it knows of those after w was laid by.
 fn tell<'a>(
     count: usize,
     parents: &'a [u8; 256],

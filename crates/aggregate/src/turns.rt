@@ -90,8 +90,8 @@ pub fn whole(
     ended(course.refusal, course.totals, after)
 }
 
-// The same in the parts of a sound session, whose tree has these links. What a request needs besides
-// serves one after the other.
+// The requests of an accepted list in the parts of a sound session, whose tree has these links. What a
+// request needs besides serves one after the other.
 fn each<'a>(
     nodes: u16,
     parents: &'a [u8; 256],
@@ -167,7 +167,7 @@ fn each<'a>(
     Course { refusal: 0, totals }
 }
 
-// Stores a combine's answer at its place. How many answers that are.
+// Stores a combine's answer at its place, and answers how many answers were stored.
 fn store(answers: &mut [i64], k: usize, request: Request, answer: i64) -> usize
     requires { ⌜ HasPlace request k (length (now answers)) ⌝ }
     ensures { λ r. ⌜ (r ≡ oneIfCombine request) × (now (answers .exit) ≡ spec.stored request answer k (now (answers .entry))) ⌝ }
@@ -181,7 +181,7 @@ fn store(answers: &mut [i64], k: usize, request: Request, answer: i64) -> usize
     }
 }
 
-// One more request done.
+// The totals with one more request done.
 fn added(totals: Totals, stored: usize, outcome: Outcome) -> Totals
     requires { ⌜ Addable totals stored outcome ⌝ }
     ensures { λ r. ⌜ r ≡ spec.added stored outcome totals ⌝ }
@@ -194,7 +194,8 @@ fn added(totals: Totals, stored: usize, outcome: Outcome) -> Totals
     }
 }
 
-// How far the list came. A request that was refused is the one after those done.
+// What running a list answers: how far it came. A request that was refused is the one after those
+// done.
 fn ended(refusal: u8, totals: Totals, session: Session) -> Ran
     ensures { λ r. ⌜ r ≡ spec.endedAs refusal totals session ⌝ }
 {
@@ -210,7 +211,8 @@ fn ended(refusal: u8, totals: Totals, session: Session) -> Ran
     }
 }
 
-// The number of a refusal and zeros, and the session as it came.
+// What running a list answers where it is refused as a whole: the number of the refusal and zeros, and
+// the session as it came.
 pub fn refused(refusal: u8, session: Session) -> Ran
     ensures { λ r. ⌜ r ≡ spec.refused refusal session ⌝ }
 {

@@ -7,8 +7,8 @@ pub fn full(bytes: &mut [u8]) -> bool {
     io::read_full(STDIN_FILENO, bytes) == bytes.len()
 }
 
-// Reads the table of the job with this head into some space, and runs the job. Whether that could be
-// done.
+// Reads the table of the job with this head into some space, runs the job, and answers whether that
+// could be done.
 pub fn job(head: &[u8], space: &mut [u8]) -> bool {
     let size = number(head, 8, 24) as usize;
     if size <= space.len() {

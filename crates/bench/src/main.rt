@@ -10,7 +10,7 @@ use session::Session;
 use session::Started;
 use tree::Tree;
 
-// As many jobs as are there, at most a thousand.
+// Does as many jobs as are there, at most a thousand.
 fn main() {
     let mut left: usize = 1000;
     while 0 < left {

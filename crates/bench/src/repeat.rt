@@ -3,7 +3,7 @@ use aggregate::Outcome;
 use aggregate::Ran;
 use session::Session;
 
-// A sum of what came of it. The node is the tree's last.
+// A sum of what came of a call that was made so many times. Its node is the tree's last.
 pub fn sum(letter: u8, times: u64, fresh: Session, log: &mut [u8]) -> u64 {
     let x = last(fresh.tree.count);
     let session = before(letter, fresh, x, log);
@@ -23,7 +23,7 @@ fn last(count: u16) -> usize {
     0
 }
 
-// The session that each call is made of.
+// The session to which each call is made.
 fn before(letter: u8, fresh: Session, x: usize, log: &mut [u8]) -> Session {
     if letter == b'C' {
         return fresh;
@@ -58,7 +58,8 @@ fn requests(letter: u8, times: u64, session: Session, x: usize, log: &mut [u8]) 
     sum
 }
 
-// The request: C a cold combine, F a free one, S a silent write, W a combine at 0 and a write.
+// The request of a letter: C a cold combine, F a free one, S a silent write, W a combine at 0 and a
+// write.
 fn after(letter: u8, session: Session, x: usize, log: &mut [u8]) -> Outcome {
     if letter == b'S' {
         return aggregate::write(session, x, 7, log, 0).outcome;
@@ -83,21 +84,21 @@ fn low(answer: i64) -> u64 {
 
 // ---- a list of 64 requests in one call
 
-// L: combines, 9 bits each.
+// A sum of what came of the letter L: a list of combines, 9 bits each.
 fn combines(times: u64, session: Session, x: usize, log: &mut [u8]) -> u64 {
     let mut list = [0u8; 74];
     fill(9, (x % 256) as u64, &mut list);
     lists(times, session, &list, log)
 }
 
-// V: writes of 7, 41 bits each.
+// A sum of what came of the letter V: a list of writes of 7, 41 bits each.
 fn writes(times: u64, session: Session, x: usize, log: &mut [u8]) -> u64 {
     let mut list = [0u8; 330];
     fill(41, (256 + x as u64 % 256) * 4294967296 + 7, &mut list);
     lists(times, session, &list, log)
 }
 
-// The list of 64 requests of so many bits.
+// Makes a list of 64 requests of so many bits.
 fn fill(width: usize, request: u64, list: &mut [u8]) {
     fields::put(list, 0, 13, 64);
     let mut place: usize = 13;

@@ -7,8 +7,8 @@ pub fn head(head: &mut [u8]) -> bool {
     io::read_full(STDIN_FILENO, head) == head.len()
 }
 
-// Reads the bytes of the case with this head into some space, and runs it. Whether that could be
-// done.
+// Reads the bytes of the case with this head into some space, runs it, and answers whether that could
+// be done.
 pub fn body(head: &[u8], space: &mut [u8]) -> bool {
     let size = number(head, 8, 24) as usize;
     if bytes(space, size) {

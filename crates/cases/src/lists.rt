@@ -24,7 +24,7 @@ fn judged(judged: Judged, list: &[u8]) {
     }
 }
 
-// What stands at a place.
+// Prints what stands at a place of a list.
 pub fn item(place: u64, list: &[u8]) {
     show::text(b"item");
     show::number(place);
@@ -62,7 +62,7 @@ fn write(node: u8, value: i32) {
     show::value32(value);
 }
 
-// A sum over so many requests.
+// A sum over so many requests of a list.
 fn summed(list: &[u8], first: usize, requests: usize) -> u64 {
     let mut sum: u64 = 0;
     let mut place = first;

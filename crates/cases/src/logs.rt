@@ -84,7 +84,7 @@ fn all(place: usize, end: usize, log: &[u8]) {
     }
 }
 
-// How many messages stand there: a usable log has room for no more than 29,127.
+// How many messages stand in the log from a place on: a usable log has room for no more than 29,127.
 fn count(place: usize, end: usize, log: &[u8]) -> usize {
     let mut at = place;
     let mut n: usize = 0;

@@ -12,7 +12,7 @@ mod show; // printing
 mod tables;
 mod vectors; // outside vectors
 
-// As many as are there, at most a million.
+// Runs as many cases as are there, at most a million.
 fn main() {
     let mut left: usize = 1000000;
     while 0 < left {

@@ -36,7 +36,8 @@ fn loaded(table: &[u8], place: usize, room: usize, list: &[u8]) {
     held(started.session);
 }
 
-// The same, with one entry of the session changed at the end; then what each call answers.
+// A table is loaded and a list served, then one entry of the session is changed, and what each call
+// answers to it is printed.
 pub fn unsound(table: u64, entry: u64, value: u64, bytes: &[u8]) {
     show::text(b"changed");
     show::number(entry);

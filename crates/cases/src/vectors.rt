@@ -105,7 +105,7 @@ fn accepted(request: Request, outcome: Outcome) {
     show::end();
 }
 
-// The index, the bits that were logged, and the bytes that hold them.
+// Prints the index of a request, the bits that it logged, and the bytes that hold them.
 fn logged(index: usize, bits: usize, log: &[u8]) {
     show::text(b"log");
     show::size(index);

@@ -8,4 +8,5 @@ pub mod TwoFields
 pub mod FirstBytes
 pub mod Turns
 pub mod Rooms
+pub mod Verdicts
 pub mod Outcomes

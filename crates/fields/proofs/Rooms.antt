@@ -3,7 +3,7 @@ use mathlib.Core.Path.{_≡_, refl, sym, ap, _∙_}
 use mathlib.Core.Bool.{Bool, true, false, cond, and-false, true≢false, and-eq-true-iff}
 use mathlib.Core.Logic.{_⊎_, inl, inr, ⊎-elim}
 use mathlib.Core.List.{List}
-use Prim.Native.Nat.{ℕ, _+_, _-_, _^_, _≤_, _<_}
+use Prim.Native.Nat.{ℕ, _+_, _-_, _*_, _^_, _≤_, _<_}
 use native.Mathlib.Nat.{suc-ne-zero}
 use native.Mathlib.Decide.{decLe}
 use native.Mathlib.Omega.{arith}
@@ -84,6 +84,14 @@ found s place w v e = found-exactly s place w v .0 (ap told e)
 
 pub cut-off : (s : List ℕ) (place w : ℕ) → w ≤ 64 → fieldAt s place w ≡ Short → usableBits (length s) < place + w
 cut-off s place w h e = ⊎-elim (λ (l : 64 < w). absurd (omega arith)) (λ l. l) (not-found-exactly s place w .0 (ap told e))
+
+-- what an answer tells of the first field
+module _ (s : List ℕ) (w : ℕ) where
+  pub first-found : (v : ℕ) → fieldAt s 0 w ≡ Value v → (w ≤ 8 * length s) × (v ≡ field s 0 w)
+  first-found v e = let f = found s 0 w v e in (omega (arith, f .1), f .2)
+
+  pub first-cut-off : w ≤ 64 → fieldAt s 0 w ≡ Short → 8 * length s < w
+  first-cut-off h e = omega (arith, cut-off s 0 w h e)
 
 -- ---- writing
 

@@ -15,7 +15,7 @@ weight k = 2 ^ (7 - k % 8)
 unfoldable pub digit : ℕ → ℕ → ℕ
 digit x w = x / w % 2
 
--- x with that digit made b
+-- x with its binary digit that counts w made b
 unfoldable pub patch : ℕ → ℕ → ℕ → ℕ
 patch x w b = x - digit x w * w + b * w
 

@@ -52,11 +52,11 @@ Write-two = (s : List ℕ) (place a b x y : ℕ) → y < 2 ^ b → putField s pl
 abbrev pub Read-of-first : Type 0
 Read-of-first = (n : ℕ) (s : List ℕ) (place w : ℕ) → place + w ≤ 8 * n → field (take n s) place w ≡ field s place w
 
--- Reading finds the number exactly where the field is at most 64 bits wide and lies in the usable bytes,
+-- Reading finds the number exactly where the field is at most 64 bits wide and lies in the usable bytes.
 abbrev pub Found-exactly : Type 0
 Found-exactly = (s : List ℕ) (place w v : ℕ) → (told (fieldAt s place w) ≡ (0, v)) ↔ ((w ≤ 64) × (place + w ≤ usableBits (length s)) × (v ≡ field s place w))
 
--- and is refused, with 1 and a zero, exactly everywhere else.
+-- Reading is refused, with 1 and a zero, exactly where the field is wider than 64 bits or does not lie in the usable bytes.
 abbrev pub Not-found-exactly : Type 0
 Not-found-exactly = (s : List ℕ) (place w : ℕ) → (told (fieldAt s place w) ≡ (1, 0)) ↔ ((64 < w) ⊎ (usableBits (length s) < place + w))
 
@@ -64,7 +64,7 @@ Not-found-exactly = (s : List ℕ) (place w : ℕ) → (told (fieldAt s place w)
 abbrev pub Taken-exactly : Type 0
 Taken-exactly = (n place w v : ℕ) → (takes n place w v ≡ true) ↔ ((w ≤ 64) × (place + w ≤ usableBits n) × (v < 2 ^ w))
 
--- A number that was taken is read; one that was not changes nothing.
+-- A number that was taken is read; a number that was not taken changes nothing.
 abbrev pub Taken-is-read : Type 0
 Taken-is-read = (s : List ℕ) (place w v : ℕ) → takes (length s) place w v ≡ true → told (fieldAt (putAt s place w v) place w) ≡ (0, v)
 

@@ -16,15 +16,15 @@ usableBits n = 8 * min n 65536
 unfoldable pub lies : ℕ → ℕ → ℕ → Bool
 lies n place w = leb w 64 && leb (place + w) (usableBits n)
 
--- and there is room for v in them
+-- the w bits from place on are at most 64, lie in the usable ones of n bytes, and have room for v
 unfoldable pub takes : ℕ → ℕ → ℕ → ℕ → Bool
 takes n place w v = lies n place w && ltb v (2 ^ w)
 
--- what reading finds
+-- what reading the w bits from place on finds
 unfoldable pub fieldAt : List ℕ → ℕ → ℕ → Field
 fieldAt s place w = cond (lies (length s) place w) (Value (field s place w)) Short
 
--- what writing leaves
+-- what writing v into the w bits from place on leaves
 unfoldable pub putAt : List ℕ → ℕ → ℕ → ℕ → List ℕ
 putAt s place w v = cond (takes (length s) place w v) (putField s place w v) s
 

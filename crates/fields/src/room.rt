@@ -32,7 +32,8 @@ pub fn lies(len: usize, place: usize, width: usize) -> bool
     width <= end - place
 }
 
-// And whether there is room for value in them.
+// Whether the width bits from place on are at most 64, lie in the usable ones of len bytes, and have
+// room for value.
 pub fn takes(len: usize, place: usize, width: usize, value: u64) -> bool
     ensures { λ r. ⌜ r ≡ Usable·takes len place width value ⌝ }
 {

@@ -6,7 +6,7 @@ ghost use Rattle.fields.specs.Fields.{field, putField};
 ghost use Rattle.fields.specs.Usable.{usableBits};
 use crate::bit;
 
-// From the first bit to the last.
+// The number in the width bits from place on, read from the first bit to the last.
 pub fn read(bytes: &[u8], place: usize, width: usize) -> u64
     requires { ⌜ (width ≤ 64) × (place + width ≤ usableBits (length (now bytes))) ⌝ }
     ensures { λ r. ⌜ r ≡ field (now (bytes .entry)) place width ⌝ }
@@ -18,7 +18,7 @@ pub fn read(bytes: &[u8], place: usize, width: usize) -> u64
     number
 }
 
-// The low bits of value, from the last to the first.
+// Writes the low bits of value into the width bits from place on, from the last to the first.
 pub fn write(bytes: &mut [u8], place: usize, width: usize, value: u64)
     requires { ⌜ place + width ≤ usableBits (length (now bytes)) ⌝ }
     ensures { λ _. ⌜ now (bytes .exit) ≡ putField (now (bytes .entry)) place width value ⌝ }

@@ -42,30 +42,30 @@ pub data Call : Type 0 where
 
 -- What comes of a call: all that it returns and leaves, and what it accepted.
 pub record Result : Type 0 where
-  -- what it answers: the number of a refusal or 0, its messages, and the next log place
+  -- what the call answers: the number of a refusal or 0, its messages, and the next log place
   pub refusal : ℕ
   pub messages : ℕ
   pub next : ℕ
-  -- of a combine or a write the answer; 0 for a list
+  -- the answer of a combine or a write; 0 for a list
   pub answer : ℤ
-  -- of a list the index of the request that was refused, how many were done, and how many answers were stored; 0 for a combine or a write
+  -- the index of the request of a list that was refused, how many requests were done, and how many answers were stored; 0 for a combine or a write
   pub index : ℕ
   pub requests : ℕ
   pub stored : ℕ
-  -- the requests that it accepted, in order, and the answers of the combines among them
+  -- the requests that the call accepted, in order, and the answers of the combines among them
   pub accepted : List Request
   pub answers : List ℤ
-  -- the session that it returns, and what it leaves in the answer places and the log that it was lent
+  -- the session that the call returns, and what it leaves in the answer places and the log that it was lent
   pub session : Session
   pub places : List ℤ
   pub log : List ℕ
 
--- a combine has an answer
+-- the answers of a request: a combine has one, a write none
 abbrev pub answerOf : Request → ℤ → List ℤ
 answerOf (Combine x) z = z ∷ []
 answerOf (Write x y) z = []
 
--- of a request: it is accepted where it answers 0; it is lent no answer places
+-- What comes of a call that makes a request: the request is accepted where it answers 0, and is lent no answer places.
 abbrev pub ofRequest : Request → Served → List ℕ → Result
 ofRequest r d log =
     record {
@@ -83,7 +83,7 @@ ofRequest r d log =
       log = log;
     }
 
--- of a list: the requests that were done are its first ones, and their answers stand in the first answer places
+-- What comes of a call that runs a list: the requests that were done are its first ones, and their answers stand in the first answer places.
 abbrev pub ofList : List ℕ → Ran → List ℤ → List ℕ → Result
 ofList list d places log =
     record {
@@ -107,7 +107,7 @@ result s (combine x log place) = ofRequest (Combine x) (servedOf s (Combine x) (
 result s (write x value small log place) = ofRequest (Write x value) (servedOf s (Write x value) (length log) place) (logOf s (Write x value) log place)
 result s (run list answers log place) = ofList list (ranOf s list answers log place) (answersOf s list answers log place) (runLogOf s list answers log place)
 
--- the log place that it is handed, and the answer places and the log that it is lent
+-- the log place that a call is handed, and the answer places and the log that it is lent
 abbrev pub fromPlace : Call → ℕ
 fromPlace (combine x log place) = place
 fromPlace (write x value small log place) = place
@@ -143,17 +143,17 @@ loggedBy s c = messagesFrom (result s c .next) (result s c .log) (fromPlace c) (
 abbrev pub History : Type 0
 History = List Call
 
--- the session that the last call returned
+-- the session that the last call of a history returned
 unfoldable pub sessionAfter : Session → History → Session
 sessionAfter o [] = o
 sessionAfter o (c ∷ h) = sessionAfter (result o c .session) h
 
--- what the calls give, one after the other
+-- what the calls of a history give, one after the other
 unfoldable pub gathered : {A : Type 0} → (Session → Call → List A) → Session → History → List A
 gathered give o [] = []
 gathered give o (c ∷ h) = give o c ++ gathered give (result o c .session) h
 
--- the accepted requests, the answers of the combines among them, and the messages that were logged
+-- the accepted requests of a history, the answers of the combines among them, and the messages that were logged
 abbrev pub acceptedIn : Session → History → List Request
 acceptedIn = gathered (λ s c. result s c .accepted)
 

@@ -32,41 +32,41 @@ use Rattle.history.specs.History.{Call, combine, write, run, ofRequest, 
 
 -- ---- the contracts
 
--- What comes of a call is what the function's own contract allows, its `Post`: of the arguments in their order, the result, and the arguments at the return, here with a prime. `now` is what stands in lent memory. That of `combine`,
+-- What comes of a call of `combine` is what the function's own contract allows, its `Post`: of the arguments in their order, the result, and the arguments at the return, here with a prime. `now` is what stands in lent memory.
 abbrev pub Combine-contract : Type 0
 Combine-contract = (κ : _) (session session′ : Session) (x x′ : ℕ) (log log′ : _) (place place′ : ℕ) (served : Served)
     → combine-contract.Post κ (session, (x, (log, (place, tt)))) served (session′, (x′, (log′, (place′, tt))))
     → result session (combine x (now log) place) ≡ ofRequest (Combine x) served (now log′)
 
--- that of `write`, where the type of the value says that it has 32 bits,
+-- What comes of a call of `write` is what the contract of `write` allows, where the type of the value says that it has 32 bits.
 abbrev pub Write-contract : Type 0
 Write-contract = (κ : _) (session session′ : Session) (x x′ : ℕ) (value value′ : ℤ) (log log′ : _) (place place′ : ℕ) (served : Served)
     → write-contract.Post κ (session, (x, (value, (log, (place, tt))))) served (session′, (x′, (value′, (log′, (place′, tt))))) → (small : within 32 value ≡ true)
     → result session (write x value small (now log) place) ≡ ofRequest (Write x value) served (now log′)
 
--- and that of `run`.
+-- What comes of a call of `run` is what the contract of `run` allows.
 abbrev pub Run-contract : Type 0
 Run-contract = (κ : _) (session session′ : Session) (list list′ answers answers′ log log′ : _) (place place′ : ℕ) (ran : Ran)
     → run-contract.Post κ (session, (list, (answers, (log, (place, tt))))) ran (session′, (list′, (answers′, (log′, (place′, tt)))))
     → result session (run (now list) (now answers) (now log) place) ≡ ofList (now list) ran (now answers′) (now log′)
 
--- A session that `Session::load` returns is fresh, where it answers 0;
+-- A session that `Session::load` returns is fresh, where it answers 0.
 abbrev pub Load-contract : Type 0
 Load-contract = (κ : _) (session session′ : Session) (bytes bytes′ : _) (begun : Started) → load-contract.Post κ (session, (bytes, tt)) begun (session′, (bytes′, tt))
     → begun .refusal ≡ 0 → Fresh (begun .session)
 
--- and so is one that `Session::fresh` returns, where the type of a tree says that it has 256 parents.
+-- A session that `Session::fresh` returns is fresh, where it answers 0; the type of a tree says that it has 256 parents.
 abbrev pub Fresh-contract : Type 0
 Fresh-contract = (κ : _) (tree tree′ : Tree) (begun : Started) → fresh-contract.Post κ (tree, tt) begun (tree′, tt) → length (tree .parents) ≡ 256
     → begun .refusal ≡ 0 → Fresh (begun .session)
 
 -- ---- from any session on
 
--- A refused call returns its number with zeros, and the session, the answer places and the log as they were;
+-- A refused call returns its number with zeros, and the session, the answer places and the log as they were.
 abbrev pub Refused-returns : Type 0
 Refused-returns = (s : Session) (c : Call) → Refused s c → result s c ≡ refusedWith (result s c .refusal) s (lentPlaces c) (lentLog c)
 
--- they are so after every call that accepts no request, as where the first request of a list is refused.
+-- The session, the answer places and the log are as they were after every call that accepts no request, as where the first request of a list is refused.
 abbrev pub Nothing-changed : Type 0
 Nothing-changed = (s : Session) (c : Call) → result s c .accepted ≡ [] → (result s c .session ≡ s) × (result s c .places ≡ lentPlaces c) × (result s c .log ≡ lentLog c)
 
@@ -103,7 +103,7 @@ abbrev pub Sums-from : Type 0
 Sums-from = (o : Session) → Good o → (h : History) (earlier later : List Request) (x : ℕ) → acceptedIn o h ≡ earlier ++ (Combine x ∷ later)
     → getD (answersIn o h) (combinesIn earlier) (pos 0) ≡ fold sum (λ u. lastWritten u (valueOf o u) earlier) (o .tree .count)
 
--- Of each ordered pair of neighbours the lease number and the messages are those of the rule's automaton, over the pair's own list,
+-- Of each ordered pair of neighbours the lease number and the messages are those of the rule's automaton, over the pair's own list.
 abbrev pub Numbers-ruled : Type 0
 Numbers-ruled = (o : Session) → Good o → (h : History) (u v : ℕ) → Pair o u v → leaseOf (sessionAfter o h) u v ≡ numberAfter 2 (leaseOf o u v) (ownOf (o .tree) u v (acceptedIn o h))
 
@@ -111,7 +111,7 @@ abbrev pub Counts-ruled : Type 0
 Counts-ruled = (o : Session) → Good o → (h : History) (u v : ℕ) → Pair o u v
     → sentOf (sessionAfter o h) u v ≡ sentOf o u v + messages 2 (leaseOf o u v) (ownOf (o .tree) u v (acceptedIn o h))
 
--- and the messages that the session counts for the pair are those that were logged for it.
+-- The messages that the session counts for an ordered pair of neighbours are those that were logged for it.
 abbrev pub Counts-logged : Type 0
 Counts-logged = (o : Session) → Good o → (h : History) (u v : ℕ) → Pair o u v → sentOf (sessionAfter o h) u v ≡ sentOf o u v + length (kept (about u v) (loggedIn o h))
 
@@ -139,11 +139,11 @@ Sums = (o : Session) → Fresh o → (h : History) (earlier later : List Request
 abbrev pub Numbers-configured : Type 0
 Numbers-configured = (o : Session) → Fresh o → (h : History) (u v : ℕ) → Pair o u v → Configuration (ownOf (o .tree) u v (acceptedIn o h)) (leaseOf (sessionAfter o h) u v)
 
--- For each ordered pair of neighbours, twice its messages is at most five times the cost of any schedule of its own list;
+-- For each ordered pair of neighbours, twice its messages is at most five times the cost of any schedule of its own list.
 abbrev pub Bounded : Type 0
 Bounded = (o : Session) → Fresh o → (h : History) (u v : ℕ) → Pair o u v → (c : ℕ) → Schedule off (ownOf (o .tree) u v (acceptedIn o h)) c → 2 * sentOf (sessionAfter o h) u v ≤ 5 * c
 
--- its messages are those that were logged for it.
+-- The messages of each ordered pair of neighbours are those that were logged for it.
 abbrev pub Logged : Type 0
 Logged = (o : Session) → Fresh o → (h : History) (u v : ℕ) → Pair o u v → sentOf (sessionAfter o h) u v ≡ length (kept (about u v) (loggedIn o h))
 
@@ -152,22 +152,22 @@ abbrev pub Bounded-together : Type 0
 Bounded-together = (o : Session) → Fresh o → (h : History) (cost : ℕ → ℕ → ℕ) → ((u v : ℕ) → Pair o u v → Schedule off (ownOf (o .tree) u v (acceptedIn o h)) (cost u v))
     → 2 * length (loggedIn o h) ≤ 5 * allPairs (o .tree) cost
 
--- On two nodes, for each n from 0 to 1,365 and whatever is written: the list of n rounds is accepted by the list's reader;
+-- On two nodes, for each n from 0 to 1,365 and whatever is written, the list of n rounds is accepted by the list's reader.
 abbrev pub Rounds-read : Type 0
 Rounds-read = (y z : ℕ → ℤ) → ((k : ℕ) → (within 32 (y k) ≡ true) × (within 32 (z k) ≡ true)) → (n : ℕ) → n ≤ 1365
     → (judgedOf (listOf (roundsOf y z n)) .refusal ≡ 0) × (requestsOf (listOf (roundsOf y z n)) ≡ roundsOf y z n)
 
--- run on a fresh session it is done to the end and sends 5 n messages, all on the pair (1,0);
+-- The list of n rounds, run on a fresh session of two nodes, is done to the end and sends 5 n messages, all on the pair (1,0).
 abbrev pub Rounds-sent : Type 0
 Rounds-sent = (o : Session) → Fresh o → o .tree .count ≡ 2 → (n : ℕ) → n ≤ 1365 → (c : Call) → RunsRounds n c
     → (result o c .refusal ≡ 0) × (length (result o c .accepted) ≡ 3 * n) × (result o c .messages ≡ 5 * n) × (result o c .next ≡ fromPlace c + 210 * n)
     × (sentOf (result o c .session) 1 0 ≡ 5 * n) × (sentOf (result o c .session) 0 1 ≡ 0)
 
--- and the schedule of the pair's own list that stays off costs 2 n, so that the bound is met exactly.
+-- For the n rounds the schedule of the own list of the pair (1,0) that stays off costs 2 n, so that the bound is met exactly.
 abbrev pub Rounds-exact : Type 0
 Rounds-exact = (o : Session) → Fresh o → o .tree .count ≡ 2 → (n : ℕ) → n ≤ 1365 → (c : Call) → RunsRounds n c
     → (cost : ℕ) × (d : Schedule off (ownOf (o .tree) 1 0 (result o c .accepted)) cost) × (staysOff d ≡ true) × (cost ≡ 2 * n) × (2 * sentOf (result o c .session) 1 0 ≡ 5 * cost)
 
--- There is such a session and such a call for each n: a log of 35,832 bytes has room.
+-- There is a fresh session of two nodes and a call that runs n rounds, for each n: a log of 35,832 bytes has room.
 abbrev pub Rounds-there : Type 0
 Rounds-there = (n : ℕ) → n ≤ 1365 → ((o : Session) × Fresh o × (o .tree .count ≡ 2)) × ((c : Call) × RunsRounds n c)

@@ -46,13 +46,17 @@ module _ (ps : List ℕ) (n : ℕ) (grown : Grown ps n) where
   pub size-most : (u v : ℕ) → u < n → v < n → adjacent ps v u ≡ true → size ps n u v ≤ n
   size-most u v hu hv a = omega (arith, sizes-add ps n grown u v hu hv a)
 
-  -- u and the sides of its other neighbours are at most all nodes
-  pub beyond : (u v : ℕ) → u < n → 1 + aggregate plus (λ w. size ps n w u) (other ps u v) n ≤ n
-  beyond u v hu =
+  -- u and the sides of those of its neighbours that pass a test are at most all nodes
+  pub around : (test : ℕ → Bool) (u : ℕ) → u < n → 1 + aggregate plus (λ w. size ps n w u) (λ w. adjacent ps w u && test w) n ≤ n
+  around test u hu =
       let e = sym (all-ones n) ∙ whole-law ps n grown ℕ plus (λ j. 1) u hu in
-      omega (arith, e, fold-most 1 (λ w. pick plus (other ps u v w) (size ps n w u)) (λ w. pick plus (adjacent ps w u) (size ps n w u)) n (λ w h. one (adjacent ps w u) (not (eqb v w)) (size ps n w u)))
+      omega (arith, e, fold-most 1 (λ w. pick plus (adjacent ps w u && test w) (size ps n w u)) (λ w. pick plus (adjacent ps w u) (size ps n w u)) n (λ w h. one (adjacent ps w u) (test w) (size ps n w u)))
     where
       one : (a b : Bool) (k : ℕ) → pick plus (a && b) k ≤ 1 * pick plus a k
       one true true k = omega arith
       one true false k = omega arith
       one false b k = omega arith
+
+  -- u and the sides of its other neighbours are at most all nodes
+  pub beyond : (u v : ℕ) → u < n → 1 + aggregate plus (λ w. size ps n w u) (other ps u v) n ≤ n
+  beyond u v hu = around (λ w. not (eqb v w)) u hu

@@ -1,5 +1,5 @@
 -- The refusal is the one that document 01 gives: each request to a session has one verdict.
-use mathlib.Core.Path.{_≡_, refl, sym, subst, _∙_}
+use mathlib.Core.Path.{_≡_, refl}
 use mathlib.Core.Bool.{Bool, true, false}
 use mathlib.Core.List.{List}
 use mathlib.Core.Logic.{inl, inr}
@@ -7,6 +7,7 @@ use Prim.Native.Nat.{ℕ, _+_, _≤_, _<_}
 use native.Mathlib.Omega.{arith}
 use borrow.Author.Tests.{lt-ltb, le-ltb, le-leb, lt-leb}
 use Rattle.fields.specs.Usable.{usableBits}
+use Rattle.fields.proofs.Verdicts.{verdict-exactly}
 use Rattle.tree.proofs.Cases.{lt-or-le}
 use Rattle.messages.specs.Writing.{bitsOfAll}
 use Rattle.messages.specs.declared.Message.{Message}
@@ -48,6 +49,4 @@ module _ (b : ℕ) (s : Session) (x len place : ℕ) (ms : List Message) where
           (λ h. (7, no-node a h))
 
 pub request-ruled-exactly : Request-ruled-exactly
-request-ruled-exactly b s x len place ms r =
-    let j = ruled b s x len place ms in
-    (λ e. subst (Ruled b s x len place ms) (sym (ruled-once b s x len place ms (j .0) (j .1)) ∙ e) (j .1), ruled-once b s x len place ms r)
+request-ruled-exactly b s x len place ms = verdict-exactly (Ruled b s x len place ms) (refusalOf b s x len place ms) (ruled-once b s x len place ms) (ruled b s x len place ms)

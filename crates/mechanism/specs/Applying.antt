@@ -60,7 +60,7 @@ putIf false l u v c = record { up = l .up; down = storeAt (l .down) v c }
 unfoldable pub put : Links → ℕ → ℕ → Cell → Links
 put l u v c = putIf (ltb v u) l u v c
 
--- one message, and message by message
+-- what one message makes of the pairs, and what messages make of them one by one
 abbrev pub stepped : Message → Links → Links
 stepped m l = put l (fromOf m) (toOf m) (hit m (cell l (fromOf m) (toOf m)))
 
@@ -68,23 +68,23 @@ unfoldable pub applied : List Message → Links → Links
 applied [] l = l
 applied (m ∷ ms) l = applied ms (stepped m l)
 
--- g over a list, with the place
+-- each element of a list made another by g, which is told its place
 unfoldable pub each : {A : Type 0} → (ℕ → A → A) → ℕ → List A → List A
 each g i [] = []
 each g i (a ∷ l) = g i a ∷ each g (suc i) l
 
--- numbers by the place of their pair: those of pairs of n nodes that `points` says become b
+-- numbers at the places of their pairs, where those of the pairs of n nodes that `points` says become b
 abbrev pub raisedAt : ℕ → (ℕ → Bool) → ℕ → List ℕ → List ℕ
 raisedAt n points b l = each (λ i k. cond ((ltb 0 i && ltb i n) && points i) b k) 0 l
 
--- those of the pairs that point to x, from child to parent and from parent to child
+-- the numbers after those of the pairs that point to x became b, from child to parent and from parent to child
 unfoldable pub upRaised : List ℕ → ℕ → ℕ → ℕ → List ℕ → List ℕ
 upRaised ps n b x l = raisedAt n (λ i. pointsTo ps i (parent ps i) x) b l
 
 unfoldable pub downRaised : List ℕ → ℕ → ℕ → ℕ → List ℕ → List ℕ
 downRaised ps n b x l = raisedAt n (λ i. pointsTo ps (parent ps i) i x) b l
 
--- every pair that points to x gets b
+-- the pairs after every pair that points to x got the number b
 abbrev pub renumbered : List ℕ → Pairs → Pairs
 renumbered numbers p = record { lease = numbers; cache = p .cache; messages = p .messages }
 

@@ -1,4 +1,4 @@
--- Combine at x: probes go out to the neighbours that hold no lease, and responses come back.
+-- Combine at x: a node probes the neighbours from which it holds no lease, and their responses come back.
 use mathlib.Core.Bool.{Bool, true, false}
 use mathlib.Core.List.{List, [], _∷_, _++_}
 use Prim.Native.Nat.{ℕ, zero, suc}
@@ -24,7 +24,7 @@ module _ (op : Op ℤ) (q : View) where
   abbrev pub asked : ℕ → ℕ → Said → Said
   asked u w r = said (r .sum) (Probe u w ∷ (r .log ++ (Response w u (r .sum) ∷ [])))
 
-  -- what u hears of w: its response where the pair (w,u) has number 0, else what is cached of it
+  -- what u hears of w: its response where u holds no lease from w, the pair (w,u) having number 0, else what is cached of it
   unfoldable pub heard : Bool → (ℕ → ℕ → Said) → ℕ → ℕ → Said
   heard true next u w = asked u w (next w u)
   heard false next u w = said (q .cache w u) []

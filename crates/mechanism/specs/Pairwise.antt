@@ -40,7 +40,7 @@ pays combine false k = price k combine
 pays write true k = price k write
 pays write false k = 0
 
--- whether the pair has messages: a combine that it points to and number 0, a write on u's side and a positive number
+-- whether the pair (u,v) has messages: at a combine that it points to where its number is 0, at a write on u's side where its number is positive
 abbrev pub speaks : pair.Request → Bool → ℕ → Bool
 speaks combine near k = not near && eqb k 0
 speaks write near k = near && not (eqb k 0)
@@ -58,7 +58,7 @@ module _ (op : Op ℤ) (q : View) where
   abbrev pub tell : ℕ → ℕ → ℕ → ℤ
   tell x u w = carry x (q .count) u w
 
--- the same of a session
+-- what u tells v in a session: when v asks, in a write of z at x, and in a request
 abbrev pub replyOf : Op ℤ → Session → ℕ → ℕ → ℤ
 replyOf op s u v = reply op (view s) u v
 
@@ -84,7 +84,7 @@ pub record Pair (s : Session) (u v : ℕ) : Type 0 where
 abbrev pub Right : Op ℤ → Session → Type 0
 Right op s = (u v : ℕ) → Pair s u v → leaseOf s u v ≢ 0 → cacheOf s u v ≡ aggregate op (valueOf s) (side (s .tree .parents) u v) (s .tree .count)
 
--- values that the operation's ε does not change
+-- the values of a session are plain: the operation's ε does not change them
 abbrev pub Plain : Op ℤ → Session → Type 0
 Plain op s = (u : ℕ) → op ._⊕_ (valueOf s u) (op .ε) ≡ valueOf s u
 
@@ -92,7 +92,7 @@ Plain op s = (u : ℕ) → op ._⊕_ (valueOf s u) (op .ε) ≡ valueOf s u
 abbrev pub Ranging : Op ℤ → Type 0
 Ranging op = (j k : ℕ) (y z : ℤ) → Range j y → Range k z → Range (j + k) (op ._⊕_ y z)
 
--- what is written is plain too
+-- the value that a request writes is plain: the operation's ε does not change it
 abbrev pub PlainlyWritten : Op ℤ → Request → Type 0
 PlainlyWritten op (Combine x) = Unit
 PlainlyWritten op (Write x z) = op ._⊕_ z (op .ε) ≡ z

@@ -33,23 +33,23 @@ abbrev pub Lemma-4-1 : Type 0
 Lemma-4-1 = (op : Op ℤ) (b : ℕ) (s : Session) → Sound b s → (r : Request) → nodeOf r < s .tree .count → (u v : ℕ) → Pair s u v
     → kept (about u v) (says op s r .log) ≡ when (speaks (kindOf r) (side (s .tree .parents) u v (nodeOf r)) (leaseOf s u v)) (exchange (kindOf r) (leaseOf s u v) u v (toldOf op s r u v))
 
--- So the pair has as many messages as the rule's automaton of one pair pays,
+-- A pair has as many messages of a request as the rule's automaton of one pair pays.
 abbrev pub Pair-pays : Type 0
 Pair-pays = (op : Op ℤ) (b : ℕ) (s : Session) → Sound b s → (r : Request) → nodeOf r < s .tree .count → (u v : ℕ) → Pair s u v
     → length (kept (about u v) (says op s r .log)) ≡ pays (kindOf r) (side (s .tree .parents) u v (nodeOf r)) (leaseOf s u v)
 
--- and the whole request at most 510, whose records have at most 19,380 bits.
+-- A request has at most 510 messages, whose records have at most 19,380 bits.
 abbrev pub Few-messages : Type 0
 Few-messages = (op : Op ℤ) (b : ℕ) (s : Session) → Sound b s → (r : Request) → nodeOf r < s .tree .count → (length (says op s r .log) ≤ 510) × (bitsOfAll (says op s r .log) ≤ 19380)
 
--- Nodes are bytes and values fit 40 bits, so refusal 11 never happens on a sound session;
+-- The nodes of a request's messages are bytes and their values fit 40 bits, so refusal 11 never happens on a sound session.
 abbrev pub Messages-fit : Type 0
 Messages-fit = (op : Op ℤ) (b : ℕ) → Ranging op → (s : Session) → Typed s → Sound b s → (r : Request) → Small r → nodeOf r < s .tree .count → AllSized (says op s r .log)
 
 abbrev pub Never-misfit : Type 0
 Never-misfit = (ms : List Message) → AllSized ms → allFit ms ≡ true
 
--- and the log read back is the list of messages of the request.
+-- The log of a request, read back, is the list of its messages.
 abbrev pub Log-is-request : Type 0
 Log-is-request = (op : Op ℤ) (b : ℕ) → Ranging op → (s : Session) → Typed s → Sound b s → (r : Request) → Small r → nodeOf r < s .tree .count
     → (log : List ℕ) (place : ℕ) → place + bitsOfAll (says op s r .log) ≤ usableBits (length log)
@@ -71,12 +71,12 @@ Cell-after = (op : Op ℤ) (b : ℕ) (s : Session) → Typed s → Sound b s →
       sent = sentOf s u v + pays (kindOf r) (side (s .tree .parents) u v (nodeOf r)) (leaseOf s u v);
     }
 
--- A sound session stays sound, the inequality with it,
+-- A sound session stays sound after a request, the inequality with it.
 abbrev pub Stays-sound : Type 0
 Stays-sound = (op : Op ℤ) (b : ℕ) → Ranging op → (s : Session) → Typed s → Sound b s → s .accepted < limit → (r : Request) → Small r → nodeOf r < s .tree .count
     → Typed (after op b s r) × Sound b (after op b s r)
 
--- and each leased cache stays the aggregate of its side; in a fresh session none is leased.
+-- Each leased cache stays the aggregate of its side after a request; in a fresh session no cache is leased.
 abbrev pub Stays-right : Type 0
 Stays-right = (op : Op ℤ) (b : ℕ) (s : Session) → Typed s → Sound b s → Plain op s → Right op s → (r : Request) → PlainlyWritten op r → nodeOf r < s .tree .count
     → Plain op (after op b s r) × Right op (after op b s r)
@@ -86,11 +86,11 @@ Fresh-right = (op : Op ℤ) (t : Tree) → length (t .parents) ≡ 256 → Typed
 
 -- ---- refusals
 
--- The refusal is computed exactly as document 01 says.
+-- The refusal of a request is computed exactly as document 01 says.
 abbrev pub Request-ruled-exactly : Type 0
 Request-ruled-exactly = (b : ℕ) (s : Session) (x len place : ℕ) (ms : List Message) (r : ℕ) → (refusalOf b s x len place ms ≡ r) ↔ Ruled b s x len place ms r
 
--- Ranges go through the sum, and it has a unit.
+-- Ranges go through the sum, and the sum has a unit.
 abbrev pub Sum-ranging : Type 0
 Sum-ranging = Ranging sum
 

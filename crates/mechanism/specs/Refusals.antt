@@ -12,12 +12,12 @@ use Rattle.messages.specs.declared.Message.{Message}
 use Rattle.session.specs.Soundness.{limit, sound}
 use Rattle.session.specs.declared.Session.{Session}
 
--- every value fits the log's 40 bits
+-- the values of all messages fit the log's 40 bits
 unfoldable pub allFit : List Message → Bool
 allFit [] = true
 allFit (m ∷ ms) = fits m && allFit ms
 
--- a request at x that says ms, to a log of len bytes, from place on
+-- the refusal of a request at x that says ms, to a log of len bytes, from place on
 pub data Ruled (b : ℕ) (s : Session) (x len place : ℕ) (ms : List Message) : ℕ → Type 0 where
   -- the session is unsound
   unsound : sound b s ≡ false → Ruled b s x len place ms 6
@@ -31,7 +31,7 @@ pub data Ruled (b : ℕ) (s : Session) (x len place : ℕ) (ms : List Message) :
   misfit : sound b s ≡ true → x < s .tree .count → s .accepted < limit → place + bitsOfAll ms ≤ usableBits len → allFit ms ≡ false → Ruled b s x len place ms 11
   accepted : sound b s ≡ true → x < s .tree .count → s .accepted < limit → place + bitsOfAll ms ≤ usableBits len → allFit ms ≡ true → Ruled b s x len place ms 0
 
--- the same as a computation
+-- the refusal of a request as a computation
 unfoldable pub refusalOf : ℕ → Session → ℕ → ℕ → ℕ → List Message → ℕ
 refusalOf b s x len place ms =
     cond (sound b s) (cond (ltb x (s .tree .count)) (cond (ltb (s .accepted) limit) (cond (roomForAll len place ms) (cond (allFit ms) 0 11) 9) 8) 7) 6

@@ -32,21 +32,21 @@ linksOf s = record { up = s .up; down = s .down }
 abbrev pub relinked : Session → Links → Session
 relinked s l = record { tree = s .tree; values = s .values; up = l .up; down = l .down; accepted = s .accepted + 1 }
 
--- after a combine every pair that points to x has number b, with or without a message
+-- the session after a combine, where every pair that points to x has number b, with or without a message, and after a write
 unfoldable pub afterCombine : Op ℤ → ℕ → Session → ℕ → Session
 afterCombine op b s x = relinked s (raised (s .tree .parents) (s .tree .count) b x (applied (combines op s x .log) (linksOf s)))
 
 unfoldable pub afterWrite : Op ℤ → Session → ℕ → ℤ → Session
 afterWrite op s x z = relinked (valued s x z) (applied (writes op s x z) (linksOf s))
 
--- ---- the same of a request
+-- ---- a combine or a write
 
--- its kind
+-- the kind of a request
 abbrev pub kindOf : Request → pair.Request
 kindOf (Combine x) = pair.combine
 kindOf (Write x z) = pair.write
 
--- what it answers and says: 0 is the answer of a write
+-- what a request answers and says, and the session after it; 0 is the answer of a write
 abbrev pub says : Op ℤ → Session → Request → Said
 says op s (Combine x) = combines op s x
 says op s (Write x z) = said (pos 0) (writes op s x z)

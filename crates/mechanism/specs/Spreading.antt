@@ -31,7 +31,7 @@ module _ (op : Op ℤ) (q : View) where
   abbrev pub carried : ℕ → ℕ → ℤ → ℕ → ℤ
   carried u v z w = total (λ c. cond (eqb c v) z (q .cache c u)) u w (q .count)
 
-  -- to w, if it is a neighbour but v and (u,w) is positive
+  -- what u, told z by v, says to w, if w is a neighbour but v and the number of (u,w) is positive
   unfoldable pub sends : Bool → ℕ → (ℕ → ℕ → ℤ → List Message) → ℕ → ℕ → ℤ → ℕ → List Message
   sends false k next u v z w = []
   sends true zero next u v z w = []

@@ -14,7 +14,7 @@ pub record View : Type 0 where
   pub lease : ℕ → ℕ → ℕ
   pub cache : ℕ → ℕ → ℤ
 
--- the same, by the arrays that hold it
+-- the view of a session, by the arrays that hold it
 abbrev pub viewOf : ℕ → List ℕ → List ℤ → List ℕ → List ℤ → List ℕ → List ℤ → View
 viewOf n ps vs ul uc dl dc = record { count = n; parents = ps; value = λ u. getD vs u (pos 0); lease = pairAt 0 ul dl; cache = pairAt (pos 0) uc dc }
 

@@ -17,7 +17,7 @@ use Rattle.messages.specs.declared.Message.{Message}
 abbrev pub Record-fits : Type 0
 Record-fits = (m : Message) → Sized m → recordOf m < 2 ^ bitsOf m
 
--- A message has a number exactly where its value fits 40 bits; where it does not, 11 is answered.
+-- A message has a number exactly where its value fits 40 bits; where the value does not fit, 11 is answered.
 abbrev pub Coded-exactly : Type 0
 Coded-exactly = (m : Message) (n : ℕ) → (toldCoded (codedOf m) ≡ (0, n)) ↔ ((fits m ≡ true) × (n ≡ coded m))
 
@@ -28,39 +28,39 @@ Uncoded-exactly = (m : Message) → (toldCoded (codedOf m) ≡ (11, 0)) ↔ (fit
 abbrev pub Coded-back : Type 0
 Coded-back = (m : Message) → Sized m → decoded (coded m) ≡ m
 
--- A message is written exactly where its record lies in the usable log and its value fits 40 bits;
+-- A message is written exactly where its record lies in the usable log and its value fits 40 bits.
 abbrev pub Recorded-exactly : Type 0
 Recorded-exactly = (n place next : ℕ) (m : Message) → (toldRecorded (recordedOf n place m) ≡ (0, next)) ↔ ((place + bitsOf m ≤ usableBits n) × (fits m ≡ true) × (next ≡ place + bitsOf m))
 
--- it is refused with 9 exactly where the usable log ends before its record does,
+-- A message is refused with 9 exactly where the usable log ends before its record does.
 abbrev pub Full-exactly : Type 0
 Full-exactly = (n place : ℕ) (m : Message) → (toldRecorded (recordedOf n place m) ≡ (9, 0)) ↔ (usableBits n < place + bitsOf m)
 
--- and with 11 exactly where there is room, but the value does not fit.
+-- A message is refused with 11 exactly where there is room for its record, but its value does not fit.
 abbrev pub Misfit-exactly : Type 0
 Misfit-exactly = (n place : ℕ) (m : Message) → (toldRecorded (recordedOf n place m) ≡ (11, 0)) ↔ ((place + bitsOf m ≤ usableBits n) × (fits m ≡ false))
 
--- Writing keeps the log's length, and the bits before and after the record, also inside a shared byte;
+-- Writing messages keeps the log's length, and the bits before and after their records, also inside a shared byte.
 abbrev pub Log-length-kept : Type 0
 Log-length-kept = (s : List ℕ) (place : ℕ) (ms : List Message) → length (logged s place ms) ≡ length s
 
 abbrev pub Log-outside-kept : Type 0
 Log-outside-kept = (s : List ℕ) (place : ℕ) (ms : List Message) (k : ℕ) → (k < place) ⊎ (place + bitsOfAll ms ≤ k) → bit (logged s place ms) k ≡ bit s k
 
--- a message that is refused changes nothing.
+-- A message that is refused changes nothing.
 abbrev pub Refused-log-kept : Type 0
 Refused-log-kept = (s : List ℕ) (place : ℕ) (m : Message) → (usableBits (length s) < place + bitsOf m) ⊎ (fits m ≡ false) → logAfter s place m ≡ s
 
--- Reading finds a message exactly where its record stands, all of it before the end, and the end is inside the usable log;
+-- Reading finds a message exactly where its record stands, all of it before the end, and the end is inside the usable log.
 abbrev pub Read-exactly : Type 0
 Read-exactly = (s : List ℕ) (place end next : ℕ) (m : Message) → (told (entryAt s place end) ≡ (0, (m, next) ∷ []))
     ↔ ((end ≤ usableBits (length s)) × (next ≤ end) × (next ≡ place + bitsOf m) × Sized m × (field s place (bitsOf m) ≡ recordOf m))
 
--- it finds the end exactly where the place is the end, and the end is inside the usable log;
+-- Reading finds the end exactly where the place is the end, and the end is inside the usable log.
 abbrev pub End-exactly : Type 0
 End-exactly = (s : List ℕ) (place end : ℕ) → (told (entryAt s place end) ≡ (0, [])) ↔ ((end ≤ usableBits (length s)) × (place ≡ end))
 
--- it is refused with 1 exactly where the end is past the usable log, the place is past the end, or fewer bits are left before the end than the record has.
+-- Reading is refused with 1 exactly where the end is past the usable log, the place is past the end, or fewer bits are left before the end than the record has.
 abbrev pub Entry-short-exactly : Type 0
 Entry-short-exactly = (s : List ℕ) (place end : ℕ) → (told (entryAt s place end) ≡ (1, []))
     ↔ ((usableBits (length s) < end) ⊎ ((end < place) ⊎ ((place < end) × (end < place + widthOf (field s place 2)))))

@@ -27,11 +27,11 @@ decoded n = messageOf (n / 72057594037927936) (n / 281474976710656 % 256) (n / 1
 unfoldable pub messageAt : List ℕ → ℕ → ℕ → Message
 messageAt s place kind = messageOf kind (field s (place + 2) 8) (field s (place + 10) 8) (signed 40 (field s (place + 18) 40))
 
--- a message of the kind, if all of its record lies before the end
+-- what is found at place of a record of the kind: a message, if all of it lies before the end
 unfoldable pub entryOf : List ℕ → ℕ → ℕ → ℕ → Entry
 entryOf s place end kind = cond (leb (place + widthOf kind) end) (Read (messageAt s place kind) (place + widthOf kind)) Short
 
--- The end has to be inside the usable log. Past the end of the log every bit reads 0, and any record has at least 18 bits, so a kind that is cut off is short too.
+-- What is found at place, before an end that has to be inside the usable log. Past the end of the log every bit reads 0, and any record has at least 18 bits, so a kind that is cut off is short too.
 unfoldable pub entryAt : List ℕ → ℕ → ℕ → Entry
 entryAt s place end = cond (leb end (usableBits (length s))) (cond (eqb place end) End (entryOf s place end (field s place 2))) Short
 
@@ -52,7 +52,7 @@ placeAfter (Read m next) place = next
 placeAfter End place = place
 placeAfter Short place = place
 
--- a message and what follows it; nothing else is one
+-- the message that was found and what follows it; no messages where none was found
 abbrev pub followed : Entry → (ℕ → List Message) → List Message
 followed (Read m next) rest = m ∷ rest next
 followed End rest = []

@@ -28,14 +28,14 @@ receiverOf (Response a b z) = b
 receiverOf (Update a b z) = b
 receiverOf (Release a b) = b
 
--- the value, if there is one, fits 40 bits
+-- a message's value, if it has one, fits 40 bits
 abbrev pub fits : Message → Bool
 fits (Probe a b) = true
 fits (Response a b z) = within 40 z
 fits (Update a b z) = within 40 z
 fits (Release a b) = true
 
--- sender and receiver are bytes, and the value fits
+-- a message's sender and receiver are bytes, and its value fits
 abbrev pub Sized : Message → Type 0
 Sized m = (senderOf m < 256) × (receiverOf m < 256) × (fits m ≡ true)
 
@@ -43,14 +43,14 @@ abbrev pub AllSized : List Message → Type 0
 AllSized [] = Unit
 AllSized (m ∷ ms) = Sized m × AllSized ms
 
--- how many bits a record of a kind has, and that of a message
+-- how many bits a record of a kind has, and how many the record of a message
 unfoldable pub widthOf : ℕ → ℕ
 widthOf kind = cond (eqb kind 1 || eqb kind 2) 58 18
 
 abbrev pub bitsOf : Message → ℕ
 bitsOf m = widthOf (kindOf m)
 
--- the record as one number: kind, sender and receiver, and the value behind them
+-- a message's record as one number: kind, sender and receiver, and the value behind them
 abbrev pub headOf : ℕ → ℕ → ℕ → ℕ
 headOf kind a b = (kind * 2 ^ 8 + a) * 2 ^ 8 + b
 
@@ -64,11 +64,11 @@ recordOf (Release a b) = headOf 3 a b
 unfoldable pub coded : Message → ℕ
 coded m = recordOf m * 2 ^ (58 - bitsOf m)
 
--- what is answered: the number, where the value fits
+-- what is answered for a message: its number, where its value fits
 unfoldable pub codedOf : Message → Coded
 codedOf m = cond (fits m) (Number (coded m)) Misfit
 
--- document 01's number and that of the message: 11 where the value does not fit 40 bits
+-- document 01's number for what was answered, and the number of the message: 11 where its value does not fit 40 bits
 abbrev pub toldCoded : Coded → ℕ × ℕ
 toldCoded (Number n) = (0, n)
 toldCoded Misfit = (11, 0)

@@ -15,11 +15,11 @@ use Rattle.messages.specs.declared.Recorded.the-variants.{Next, Full, Mi
 abbrev pub room : ℕ → ℕ → Message → Bool
 room n place m = leb (place + bitsOf m) (usableBits n)
 
--- room is looked at first
+-- what writing m answers: room is looked at first
 unfoldable pub recordedOf : ℕ → ℕ → Message → Recorded
 recordedOf n place m = cond (room n place m) (cond (fits m) (Next (place + bitsOf m)) Misfit) Full
 
--- the record is one field of the log; where the message is refused the log stays as it is
+-- the log after m is written: the record is one field of it; where m is refused the log stays as it is
 unfoldable pub logAfter : List ℕ → ℕ → Message → List ℕ
 logAfter s place m = cond (room (length s) place m && fits m) (putField s place (bitsOf m) (recordOf m)) s
 
@@ -34,11 +34,11 @@ unfoldable pub logged : List ℕ → ℕ → List Message → List ℕ
 logged s place [] = s
 logged s place (m ∷ ms) = logged (logAfter s place m) (place + bitsOf m) ms
 
--- how many bits their records have
+-- how many bits the records of all messages have
 unfoldable pub bitsOfAll : List Message → ℕ
 bitsOfAll [] = 0
 bitsOfAll (m ∷ ms) = bitsOf m + bitsOfAll ms
 
--- they all have room in the usable log of n bytes, from place on
+-- the records of all messages have room in the usable log of n bytes, from place on
 abbrev pub roomForAll : ℕ → ℕ → List Message → Bool
 roomForAll n place ms = leb (place + bitsOfAll ms) (usableBits n)

@@ -23,7 +23,7 @@ pub enum Message {
 
 // A message as a number.
 pub enum Coded {
-    // its record, with zero bits behind it up to 58
+    // the message's record, with zero bits behind it up to 58
     Number(u64),
     // the value does not fit the record's 40 bits
     Misfit,
@@ -31,7 +31,7 @@ pub enum Coded {
 
 // What writing a message answers.
 pub enum Recorded {
-    // the place after its record
+    // the place after the message's record
     Next(usize),
     // the usable log ends before the record does
     Full,
@@ -68,7 +68,7 @@ pub fn code(message: Message) -> Coded
     Coded::Misfit
 }
 
-// The message of such a number.
+// The message of a number of 58 bits.
 pub fn decode(number: u64) -> Message
     ensures { λ r. ⌜ r ≡ decoded number ⌝ }
 {
@@ -88,7 +88,7 @@ pub fn decode(number: u64) -> Message
     Message::Release(from, to)
 }
 
-// Writes the message's record from place on. Where it is refused, nothing is changed.
+// Writes the message's record from place on. Where the message is refused, nothing is changed.
 pub fn write(log: &mut [u8], place: usize, message: Message) -> Recorded
     ensures { λ r. ⌜ (r ≡ recordedOf (length (now (log .entry))) place message) × (now (log .exit) ≡ logAfter (now (log .entry)) place message) ⌝ }
 {
@@ -103,7 +103,7 @@ pub fn write(log: &mut [u8], place: usize, message: Message) -> Recorded
     Recorded::Full
 }
 
-// What stands at place, before end.
+// What stands in the log at place, before end.
 pub fn read(log: &[u8], place: usize, end: usize) -> Entry
     ensures { λ r. ⌜ r ≡ entryAt (now (log .entry)) place end ⌝ }
 {

@@ -68,7 +68,7 @@ pub fn holds(message: Message) -> bool
     }
 }
 
-// The record of a message that holds, as one number.
+// The record of a message whose value fits, as one number.
 pub fn number(message: Message) -> u64
     requires { ⌜ fits message ≡ true ⌝ }
     ensures { λ r. ⌜ (r ≡ recordOf message) × (r < 2 ^ bitsOf message) ⌝ }
@@ -138,7 +138,7 @@ fn value(log: &[u8], place: usize) -> i64
     signed(part(log, place, 40))
 }
 
-// The value of 40 bits.
+// The value that 40 bits stand for.
 pub fn signed(number: u64) -> i64
     requires { ⌜ number < 2 ^ 40 ⌝ }
     ensures { λ r. ⌜ r ≡ Twos·signed 40 number ⌝ }
@@ -157,7 +157,7 @@ fn head(kind: u64, from: u8, to: u8) -> u64
     (kind * 256 + from as u64) * 256 + to as u64
 }
 
-// And the value behind them.
+// A head of kind, sender and receiver with the value behind it, as one number.
 fn with_value(head: u64, value: i64) -> u64
     requires { ⌜ (head < 262144) × (within 40 value ≡ true) ⌝ }
     ensures { λ r. ⌜ r ≡ head * 2 ^ 40 + twos 40 value ⌝ }

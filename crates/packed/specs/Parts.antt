@@ -18,7 +18,7 @@ abbrev pub Fit : List Part → Type 0
 Fit [] = Unit
 Fit (p ∷ ps) = (p .number < 2 ^ p .width) × Fit ps
 
--- how many bits they take, and how many bytes that is
+-- how many bits the parts take, and how many bytes so many bits take
 unfoldable pub bitsOfParts : List Part → ℕ
 bitsOfParts [] = 0
 bitsOfParts (p ∷ ps) = p .width + bitsOfParts ps

@@ -26,6 +26,6 @@ Rest-kept = (a b : List ℕ) (place : ℕ) (ps : List Part) → place + bitsOfPa
 abbrev pub Ends-exactly : Type 0
 Ends-exactly = (s : List ℕ) (place : ℕ) → (ends s place ≡ true) ↔ ((place ≤ usableBits (length s)) × (length s ≡ bytesFor place) × (field s place (left place) ≡ 0))
 
--- Of a place in the usable bytes it fails exactly where bytes are left over or a filling bit is set.
+-- At a place in the usable bytes the test of an end fails exactly where bytes are left over or a filling bit is set.
 abbrev pub Left-over-exactly : Type 0
 Left-over-exactly = (s : List ℕ) (place : ℕ) → place ≤ usableBits (length s) → (ends s place ≡ false) ↔ ((bytesFor place < length s) ⊎ (0 < field s place (left place)))

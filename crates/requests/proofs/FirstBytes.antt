@@ -1,14 +1,12 @@
 -- Bytes that are more than any list has are refused as their first 20,995.
-use mathlib.Core.Path.{_≡_, refl, sym, ap, _∙_}
+use mathlib.Core.Path.{_≡_, refl, sym, _∙_}
 use mathlib.Core.List.{List}
 use mathlib.Core.Logic.{inl}
 use Prim.Native.Nat.{ℕ, zero, suc, _≤_}
-use native.Mathlib.Decide.{decLe}
 use native.Mathlib.Omega.{arith}
-use lib.ListN.{length, take}
-use lib.Seq.{length-take-le, take-all}
-use Rattle.fields.proofs.FirstBytes.{read-of-first}
-use Rattle.requests.specs.Format.{Counted, Ruled, no-count, bad-count, no-request, left-over, whole}
+use lib.ListN.{length}
+use Rattle.fields.proofs.FirstBytes.{first-decide}
+use Rattle.requests.specs.Format.{Ruled, no-count, bad-count, no-request, left-over, whole}
 use Rattle.requests.specs.Promises.{List-first-bytes}
 use Rattle.requests.specs.Reading.{countAt, placeOf, judgedOf}
 use Rattle.requests.proofs.Places.{place-most}
@@ -37,11 +35,4 @@ module _ (s t : List ℕ) (ls : 20995 ≤ length s) (lt : 20995 ≤ length t) (s
   same-judged (suc r) j = judged-refused t (same-fault j) ∙ sym (judged-refused s j)
 
 pub list-first-bytes : List-first-bytes
-list-first-bytes s = go (decLe (length s) 20995)
-  where
-    go : Dec (length s ≤ 20995) → judgedOf (take 20995 s) ≡ judgedOf s
-    go (yes l) = ap judgedOf (take-all 20995 s l)
-    go (no l) =
-        let r : ℕ = judgedOf s .refusal in
-        let kept = length-take-le 20995 s (omega arith) in
-        same-judged s (take 20995 s) (omega arith) (omega (arith, kept)) (read-of-first 20995 s 0 13 (omega arith)) r (list-ruled-exactly s r .0 refl)
+list-first-bytes = first-decide judgedOf 20995 (λ s t ls lt same. let r : ℕ = judgedOf s .refusal in same-judged s t ls lt (same 0 13 (omega arith)) r (list-ruled-exactly s r .0 refl))

@@ -1,5 +1,5 @@
 -- The reader refuses a list exactly as the format says, and answers zeros where it refuses.
-use mathlib.Core.Path.{_≡_, refl, sym, _∙_, subst}
+use mathlib.Core.Path.{_≡_, refl, _∙_}
 use mathlib.Core.Bool.{Bool, true, false}
 use mathlib.Core.List.{List}
 use Prim.Native.Nat.{ℕ, zero, suc, _*_, _≤_, _<_}
@@ -9,6 +9,7 @@ use lib.ListN.{length}
 use borrow.Author.Tests.{le-leb, lt-leb}
 use Rattle.fields.specs.Fields.{field}
 use Rattle.fields.specs.Usable.{usableBits}
+use Rattle.fields.proofs.Verdicts.{verdict-exactly}
 use Rattle.packed.specs.Parts.{bytesFor, left, ends}
 use Rattle.packed.proofs.Filling.{ends-exactly, left-over-exactly}
 use Rattle.requests.specs.Format.{Counted, Ruled, no-count, bad-count, no-request, left-over, whole}
@@ -94,10 +95,7 @@ module _ (s : List ℕ) where
   judged-whole h = rw (ruled-once h)
 
 pub list-ruled-exactly : List-ruled-exactly
-list-ruled-exactly s r = (
-  λ e. subst (Ruled s) (sym (ruled-once s (has-rule s .1)) ∙ sym (answered s) ∙ e) (has-rule s .1),
-  λ h. answered s ∙ ruled-once s h,
-)
+list-ruled-exactly s = verdict-exactly (Ruled s) (judgedOf s .refusal) (λ r h. answered s ∙ ruled-once s h) (has-rule s)
 
 -- a list that is not refused has a count in rule, no byte more than its requests take, and no filling bit set
 pub accepted : (s : List ℕ) → Ruled s 0 → Counted s (countAt s) × (length s ≡ bytesFor (placeOf s (countAt s))) × (field s (placeOf s (countAt s)) (left (placeOf s (countAt s))) ≡ 0)

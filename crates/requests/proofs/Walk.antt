@@ -8,7 +8,7 @@ use native.Mathlib.Omega.{arith}
 use lib.ListN.{length}
 use Rattle.fields.specs.Usable.{fieldAt}
 use Rattle.fields.specs.declared.Field.the-variants as finding
-use Rattle.fields.proofs.Rooms.{found, cut-off}
+use Rattle.fields.proofs.Rooms.{first-found, first-cut-off}
 use Rattle.packed.specs.Parts.{ends}
 use Rattle.packed.proofs.Filling.{ends-exactly, left-over-exactly}
 use Rattle.requests.specs.Lists.{oneIfCombine}
@@ -25,14 +25,14 @@ use Rattle.requests.proofs.Refusals.{usable, judged-refused, judged-who
 
 module _ (s : List ℕ) where
   pub count-cut : fieldAt s 0 13 ≡ finding.Short → judgedOf s ≡ refused 1
-  count-cut f = judged-refused s (no-count (omega (arith, cut-off s 0 13 (omega arith) f)))
+  count-cut f = judged-refused s (no-count (first-cut-off s 13 (omega arith) f))
 
   module _ (n : ℕ) (f : fieldAt s 0 13 ≡ finding.Value n) where
     pub count-many : 4096 < n → judgedOf s ≡ refused 5
-    count-many h = judged-refused s (bad-count (omega (arith, found s 0 13 n f .1)) (omega (arith, found s 0 13 n f .2)))
+    count-many h = let c = first-found s 13 n f in judged-refused s (bad-count (c .0) (rw (c .1) at h))
 
     pub counted : n ≤ 4096 → Counted s n
-    counted h = record { there = omega (arith, found s 0 13 n f .1); count = found s 0 13 n f .2; few = h }
+    counted h = let c = first-found s 13 n f in record { there = c .0; count = c .1; few = h }
 
 -- ---- the requests
 
@@ -68,10 +68,10 @@ module _ (s : List ℕ) (n : ℕ) (g : Counted s n) where
       pub went-on : (r : Request) (next more : ℕ) → itemAt s place ≡ Found r next → more ≡ combines + oneIfCombine r → Went s n next more (k + 1)
       went-on r next more e m =
           let f = item-exactly s place next r .0 (ap told e) in
-          rw (add-one k) (record { turns = omega arith; here = f .2 ∙ next-place; inside = omega (arith, f .0, f .2); sum = m ∙ bitsOfParts (f .1) })
+          rw (add-one k) (record { turns = omega arith; here = f .2 ∙ next-place; inside = omega (arith, f .0, f .2); sum = m ∙ combines-next (f .1) })
         where
-          bitsOfParts : r ≡ requestAt s place → combines + oneIfCombine r ≡ combinesTo s (suc k)
-          bitsOfParts e = unfold combinesTo in rw (e, w .sum, w .here)
+          combines-next : r ≡ requestAt s place → combines + oneIfCombine r ≡ combinesTo s (suc k)
+          combines-next e = unfold combinesTo in rw (e, w .sum, w .here)
 
       pub went-short : (number : ℕ) → itemAt s place ≡ Short → number ≡ 1 → judgedOf s ≡ refused number
       went-short number e one =

@@ -8,7 +8,7 @@ use Rattle.fields.specs.Fields.{field}
 use Rattle.packed.specs.Parts.{bytesFor, left}
 use Rattle.requests.specs.Reading.{countAt, placeOf}
 
--- the count is there, and it is at most 4,096
+-- the count n of a list is there, and it is at most 4,096
 pub record Counted (s : List ℕ) (n : ℕ) : Type 0 where
   pub there : 13 ≤ 8 * length s
   pub count : n ≡ countAt s

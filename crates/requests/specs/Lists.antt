@@ -14,12 +14,12 @@ abbrev pub nodeOf : Request → ℕ
 nodeOf (Combine node) = node
 nodeOf (Write node value) = node
 
--- what is written fits 32 bits
+-- the value that a request writes fits 32 bits
 abbrev pub Small : Request → Type 0
 Small (Combine node) = Unit
 Small (Write node value) = within 32 value ≡ true
 
--- and the node is a byte
+-- the node of a request is a byte, and the value that it writes fits 32 bits
 abbrev pub Sized : Request → Type 0
 Sized r = (nodeOf r < 256) × Small r
 
@@ -27,7 +27,7 @@ abbrev pub AllSized : List Request → Type 0
 AllSized [] = Unit
 AllSized (r ∷ rs) = Sized r × AllSized rs
 
--- 1 bit (0 combine, 1 write), the node in 8, and for a write the value in 32, two's complement
+-- a request as one field: 1 bit (0 combine, 1 write), the node in 8, and for a write the value in 32, two's complement
 abbrev pub partOf : Request → Part
 partOf (Combine node) = record { width = 9; number = node }
 partOf (Write node value) = record { width = 41; number = (2 ^ 8 + node) * 2 ^ 32 + twos 32 value }
@@ -36,7 +36,7 @@ abbrev pub partsOf : List Request → List Part
 partsOf [] = []
 partsOf (r ∷ rs) = partOf r ∷ partsOf rs
 
--- the count in 13 bits, then each request
+-- the fields of a list, and its bytes: the count in 13 bits, then each request
 abbrev pub listParts : List Request → List Part
 listParts rs = record { width = 13; number = length rs } ∷ partsOf rs
 

@@ -11,11 +11,11 @@ use Rattle.requests.specs.Format.{Ruled}
 use Rattle.requests.specs.Reading.{requestAt, nextPlace, itemAt, told, Hands, requestsOf, refused, judgedOf}
 use Rattle.requests.specs.declared.Request.{Request}
 
--- The reader refuses a list exactly as the format says,
+-- The list's reader refuses exactly as the format says.
 abbrev pub List-ruled-exactly : Type 0
 List-ruled-exactly = (s : List ℕ) (r : ℕ) → (judgedOf s .refusal ≡ r) ↔ Ruled s r
 
--- and answers zeros where it refuses.
+-- The list's reader answers zeros where it refuses.
 abbrev pub List-refused-with-zeros : Type 0
 List-refused-with-zeros = (s : List ℕ) → 0 < judgedOf s .refusal → judgedOf s ≡ refused (judgedOf s .refusal)
 
@@ -23,7 +23,7 @@ List-refused-with-zeros = (s : List ℕ) → 0 < judgedOf s .refusal → judgedO
 abbrev pub List-first-bytes : Type 0
 List-first-bytes = (s : List ℕ) → judgedOf (take 20995 s) ≡ judgedOf s
 
--- Of an accepted list it tells how many requests there are, and how many of them are combines.
+-- Of an accepted list the reader tells how many requests there are, and how many of them are combines.
 abbrev pub Counts-right : Type 0
 Counts-right = (s : List ℕ) → judgedOf s .refusal ≡ 0 → (judgedOf s .requests ≡ length (requestsOf s)) × (judgedOf s .combines ≡ combinesIn (requestsOf s))
 
@@ -31,19 +31,19 @@ Counts-right = (s : List ℕ) → judgedOf s .refusal ≡ 0 → (judgedOf s .req
 abbrev pub List-exactly : Type 0
 List-exactly = (s : List ℕ) (rs : List Request) → Bytes s → AllSized rs → length rs ≤ 4096 → ((judgedOf s .refusal ≡ 0) × (requestsOf s ≡ rs)) ↔ (s ≡ listOf rs)
 
--- So the bytes of a list of up to 4,096 requests are read as these requests.
+-- The bytes of a list of up to 4,096 requests are read as these requests.
 abbrev pub List-reads-back : Type 0
 List-reads-back = (rs : List Request) → AllSized rs → length rs ≤ 4096 → (judgedOf (listOf rs) .refusal ≡ 0) × (requestsOf (listOf rs) ≡ rs)
 
--- What is read has a byte for a node and 32 bits for a value.
+-- A request that is read has a byte for its node and 32 bits for its value.
 abbrev pub Read-sized : Type 0
 Read-sized = (s : List ℕ) → AllSized (requestsOf s)
 
--- A request is found at a place exactly where all of it lies in the usable bytes,
+-- A request is found at a place exactly where all of it lies in the usable bytes.
 abbrev pub Item-exactly : Type 0
 Item-exactly = (s : List ℕ) (place next : ℕ) (r : Request) → (told (itemAt s place) ≡ (0, (r, next) ∷ [])) ↔ ((nextPlace s place ≤ usableBits (length s)) × (r ≡ requestAt s place) × (next ≡ nextPlace s place))
 
--- and 1 is answered exactly everywhere else.
+-- At a place 1 is answered exactly where not all of the request lies in the usable bytes.
 abbrev pub Item-short-exactly : Type 0
 Item-short-exactly = (s : List ℕ) (place : ℕ) → (told (itemAt s place) ≡ (1, [])) ↔ (usableBits (length s) < nextPlace s place)
 

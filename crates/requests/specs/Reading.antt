@@ -31,7 +31,7 @@ nextPlace s place = place + cond (isCombine s place) 9 41
 unfoldable pub itemAt : List ℕ → ℕ → Item
 itemAt s place = cond (leb (nextPlace s place) (usableBits (length s))) (Found (requestAt s place) (nextPlace s place)) Short
 
--- document 01's number, and the request with the next place if there is one
+-- document 01's number for what was found, and the request with the next place if there is one
 abbrev pub told : Item → ℕ × List (Request × ℕ)
 told (Found r next) = (0, (r, next) ∷ [])
 told Short = (1, [])
@@ -51,7 +51,7 @@ unfoldable pub placeOf : List ℕ → ℕ → ℕ
 placeOf s zero = 13
 placeOf s (suc k) = nextPlace s (placeOf s k)
 
--- k requests from a place on, and those of the whole list
+-- k requests from a place on, and all requests of the list
 unfoldable pub requestsFrom : List ℕ → ℕ → ℕ → List Request
 requestsFrom s place zero = []
 requestsFrom s place (suc k) = requestAt s place ∷ requestsFrom s (nextPlace s place) k
@@ -59,19 +59,19 @@ requestsFrom s place (suc k) = requestAt s place ∷ requestsFrom s (nextPlace s
 abbrev pub requestsOf : List ℕ → List Request
 requestsOf s = requestsFrom s 13 (countAt s)
 
--- how many of the first k are combines
+-- how many of the first k requests are combines
 unfoldable pub combinesTo : List ℕ → ℕ → ℕ
 combinesTo s zero = 0
 combinesTo s (suc k) = combinesTo s k + oneIfCombine (requestAt s (placeOf s k))
 
--- of requests that end at a place: 1 where the list ends before them, 4 where more is left than zero bits to the byte
+-- the fault of requests that end at a place: 1 where the list ends before them, 4 where more is left than zero bits to the byte
 abbrev pub endFault : List ℕ → ℕ → ℕ
 endFault s place = cond (leb place (8 * length s)) (cond (ends s place) 0 4) 1
 
 unfoldable pub refusalOf : List ℕ → ℕ
 refusalOf s = cond (leb 13 (8 * length s)) (cond (leb (countAt s) 4096) (endFault s (placeOf s (countAt s))) 5) 1
 
--- 0 and the numbers, or a refusal and zeros
+-- what judging a list answers: 0 and the numbers, or a refusal and zeros
 abbrev pub refused : ℕ → Judged
 refused r = record { refusal = r; requests = 0; combines = 0; first = 0 }
 

@@ -35,7 +35,7 @@ pub fn requests(list: &[u8], count: usize) -> Judged
     }
 }
 
-// 1 for a combine, 0 for a write.
+// How many combines a request is: 1 for a combine, 0 for a write.
 pub fn one_if_combine(request: Request) -> usize
     ensures { λ r. ⌜ r ≡ oneIfCombine request ⌝ }
 {
@@ -45,7 +45,7 @@ pub fn one_if_combine(request: Request) -> usize
     }
 }
 
-// A refusal, and zeros.
+// What judging a refused list answers: its number, and zeros.
 pub fn refused(number: u8) -> Judged
     ensures { λ r. ⌜ r ≡ Reading·refused number ⌝ }
 {

@@ -2,18 +2,18 @@
 use mathlib.Core.Path.{_≡_}
 use mathlib.Core.Bool.{true}
 use mathlib.Core.Logic.{_↔_}
-use mathlib.Core.List.{List, [], _∷_}
+use mathlib.Core.List.{List, _∷_}
 use Prim.Native.Nat.{ℕ, _+_, _*_, _≤_}
 use lib.ListN.{length, replicate}
 use Rattle.rule.specs.Pair.{Request, combine, write, numberAfter, messages, rounds}
 use Rattle.rule.specs.Schedules.{Mode, off, Schedule, staysOff}
 use Rattle.rule.specs.Configurations.{Configuration, potential}
 
--- Twice the messages is at most five times the cost of any schedule of the same list, and the potential of the start.
+-- Twice a pair's messages is at most five times the cost of any schedule of the same list, and the potential of the start.
 abbrev pub Bound : Type 0
 Bound = (m : Mode) (k : ℕ) (l : List Request) (c : ℕ) → Schedule m l c → 2 * messages 2 k l ≤ 5 * c + potential m k
 
--- For a fresh pair and a schedule that starts off that is five halves of the cost.
+-- Twice a fresh pair's messages is at most five times the cost of any schedule that starts off.
 abbrev pub Five-halves : Type 0
 Five-halves = (l : List Request) (c : ℕ) → Schedule off l c → 2 * messages 2 0 l ≤ 5 * c
 
@@ -24,7 +24,7 @@ Rounds-cost = (n : ℕ) → messages 2 0 (rounds n) ≡ 5 * n
 abbrev pub Rounds-off : Type 0
 Rounds-off = (n : ℕ) → (c : ℕ) × (s : Schedule off (rounds n) c) × (staysOff s ≡ true) × (c ≡ 2 * n)
 
--- The number is the paper's configuration.
+-- A pair's lease number is the paper's configuration.
 abbrev pub Configured : Type 0
 Configured = (l : List Request) (k : ℕ) → Configuration l k ↔ (numberAfter 2 0 l ≡ k)
 
@@ -35,10 +35,10 @@ Granted = (b k n : ℕ) → 1 ≤ n → numberAfter b k (replicate n combine) �
 abbrev pub Broken-exactly : Type 0
 Broken-exactly = (b k n : ℕ) → (numberAfter b k (combine ∷ replicate n write) ≡ 0) ↔ (b ≤ n)
 
--- The number is at most the break count.
+-- A pair's lease number is at most the break count.
 abbrev pub Number-most : Type 0
 Number-most = (b k : ℕ) (l : List Request) → k ≤ b → numberAfter b k l ≤ b
 
--- The messages are at most two for each request.
+-- A pair's messages are at most two for each request.
 abbrev pub Messages-most : Type 0
 Messages-most = (b k : ℕ) (l : List Request) → messages b k l ≤ 2 * length l

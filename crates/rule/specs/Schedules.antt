@@ -4,12 +4,12 @@ use mathlib.Core.Bool.{Bool, true, false}
 use mathlib.Core.List.{List, [], _∷_}
 use Rattle.rule.specs.Pair.{Request, combine, write}
 
--- A schedule is on or off,
+-- The mode of a schedule: it is on or off.
 pub data Mode : Type 0 where
   off : Mode
   on : Mode
 
--- and changes only with the pair's requests. `Schedule m l c` is one that is in mode m before the list l and costs c.
+-- A schedule changes its mode only with the pair's requests. `Schedule m l c` is one that is in mode m before the list l and costs c.
 -- The table's entries, by request, mode before and mode after:
 pub data Schedule : Mode → List Request → ℕ → Type 0 where
   combine-off-off : {l : List Request} {c : ℕ} → Schedule off l c → Schedule off (combine ∷ l) (2 + c)

@@ -12,7 +12,7 @@ pub struct Rule {}
 impl Rule {
     // A lease is granted after so many combines in a row.
     pub const GRANT: u32 = 1;
-    // It is broken after so many writes in a row.
+    // A lease is broken after so many writes in a row.
     pub const BREAK: u8 = 2;
 
     // The lease number after so many combines in a row.

@@ -4,7 +4,7 @@ use libc::STDOUT_FILENO;
 use requests::Request;
 use twos::Encoded;
 
-// A request that was accepted.
+// The line of a request that was accepted.
 pub fn request(request: Request, outcome: Outcome) {
     match request {
         Request::Combine(node) => combine(node, outcome.answer),
@@ -13,7 +13,7 @@ pub fn request(request: Request, outcome: Outcome) {
     last(outcome.messages as u64);
 }
 
-// The messages of all requests.
+// The line of the messages of all requests.
 pub fn total(sum: u64) {
     text(b"total");
     last(sum);

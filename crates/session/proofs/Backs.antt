@@ -1,5 +1,5 @@
 -- The table of a session: what its writer answers, loaded and written back, written and loaded back, and the output kept where it is refused.
-use mathlib.Core.Path.{_≡_, refl, subst, _∙_}
+use mathlib.Core.Path.{_≡_, refl, _∙_}
 use mathlib.Core.Bool.{Bool, true, false}
 use mathlib.Core.List.{List}
 use Prim.Native.Nat.{ℕ}
@@ -8,6 +8,7 @@ use lib.ListN.{length, take}
 use Rattle.tree.specs.Parents.{inRule}
 use Rattle.tree.proofs.Cases.{lt-or-le}
 use Rattle.tree.proofs.InRule.{in-rule-exactly}
+use Rattle.fields.proofs.Verdicts.{verdict-exactly}
 use Rattle.table.specs.Layout.{tableSize}
 use Rattle.table.specs.Reading.{treeOf}
 use Rattle.table.specs.Writing as table
@@ -67,7 +68,7 @@ module _ (s : Session) (room : ℕ) where
           (λ l. rw (of-tree _ e (table.done (in-rule e) l)) (done e l))
 
 pub session-written-exactly : Session-written-exactly
-session-written-exactly s room w = (λ e. subst (Answered s room) e (answered s room), is s room w)
+session-written-exactly s room = verdict-exactly (Answered s room) (writtenOf s room) (is s room) (_, answered s room)
 
 -- ---- the two ways round
 

@@ -18,7 +18,7 @@ pairAt d up down u v = cond (ltb v u) (getD up u d) (getD down v d)
 abbrev pub valueOf : Session → ℕ → ℤ
 valueOf s u = getD (s .values) u (pos 0)
 
--- of the pair (u,v): the lease number, v's cached value for u's side, and the messages sent so far
+-- the lease number of the pair (u,v), v's cached value for u's side, and the messages of the pair sent so far
 abbrev pub leaseOf : Session → ℕ → ℕ → ℕ
 leaseOf s u v = pairAt 0 (s .up .lease) (s .down .lease) u v
 

@@ -24,7 +24,7 @@ limit = 1048576
 abbrev pub Ordered : List ℕ → ℕ → (ℕ → ℕ → ℕ) → Type 0
 Ordered ps n lease = (r u v : ℕ) → r < n → u < n → v < n → adjacent ps r u ≡ true → adjacent ps v u ≡ true → r ≢ v → lease u v ≤ lease r u
 
--- an entry that is not used
+-- entry i of one direction is zero, as one that is not used
 pub record Unused (p : Pairs) (i : ℕ) : Type 0 where
   pub no-lease : getD (p .lease) i 0 ≡ 0
   pub no-cache : getD (p .cache) i (pos 0) ≡ pos 0
@@ -35,7 +35,7 @@ pub record Sound (b : ℕ) (s : Session) : Type 0 where
   pub tree-in-rule : InRule (s .tree .parents) (s .tree .count)
   -- no lease number is above b
   pub low : (u v : ℕ) → u < s .tree .count → v < s .tree .count → adjacent (s .tree .parents) v u ≡ true → leaseOf s u v ≤ b
-  -- the inequality holds
+  -- the inequality between neighbouring pairs holds
   pub ordered : Ordered (s .tree .parents) (s .tree .count) (leaseOf s)
   -- a cache for a side of k nodes is in the range of k
   pub caches-in : (u v : ℕ) → u < s .tree .count → v < s .tree .count → adjacent (s .tree .parents) v u ≡ true → Range (size (s .tree .parents) (s .tree .count) u v) (cacheOf s u v)
@@ -47,20 +47,20 @@ pub record Sound (b : ℕ) (s : Session) : Type 0 where
   pub no-pairs : (i : ℕ) → i < 256 → (i ≡ 0) ⊎ (s .tree .count ≤ i) → Unused (s .up) i × Unused (s .down) i
   pub no-values : (i : ℕ) → i < 256 → s .tree .count ≤ i → valueOf s i ≡ pos 0
 
--- ---- the same as a test
+-- ---- soundness as a test
 
--- every ordered pair of neighbours, and every two different neighbours of a node, pass the test
+-- a test of every ordered pair of neighbours, and of every two different neighbours of a node
 abbrev pub everyPair : List ℕ → ℕ → (ℕ → ℕ → Bool) → Bool
 everyPair ps n test = every (λ u. every (λ v. not (adjacent ps v u) || test u v) n) n
 
 abbrev pub everyTwo : List ℕ → ℕ → (ℕ → ℕ → ℕ → Bool) → Bool
 everyTwo ps n test = everyPair ps n (λ u v. every (λ r. not (other ps u v r) || test r u v) n)
 
--- lease number, cache and messages are within their limits
+-- the lease number, the cache and the messages of a pair are within their limits
 unfoldable pub inLimits : ℕ → ℕ → ℕ → ℕ → ℤ → ℕ → Bool
 inLimits b k twice lease cache messages = leb lease b && (leb messages twice && inRange k cache)
 
--- an entry of a pair is zero; there is no node i that has one
+-- entry i of one direction is zero, and i is no node that has such an entry
 abbrev pub zeroAt : Pairs → ℕ → Bool
 zeroAt p i = inLimits 0 0 0 (getD (p .lease) i 0) (getD (p .cache) i (pos 0)) (getD (p .messages) i 0)
 

@@ -9,16 +9,16 @@ use Rattle.table.specs.declared.Written.{Written}
 use Rattle.session.specs.Soundness.{sound}
 use Rattle.session.specs.declared.Session.{Session}
 
--- what it answers with room for so many bytes
+-- what the table writer answers with room for so many bytes
 pub data Answered (s : Session) (room : ℕ) : Written → Type 0 where
   six : sound 2 s ≡ false → Answered s room (record { refusal = 6; bytes = 0 })
   nine : sound 2 s ≡ true → room < tableSize (s .tree .count) → Answered s room (record { refusal = 9; bytes = 0 })
   done : sound 2 s ≡ true → tableSize (s .tree .count) ≤ room → Answered s room (record { refusal = 0; bytes = tableSize (s .tree .count) })
 
--- the same as a computation: a sound session's tree is in rule, so its table is refused with 9 alone
+-- what the table writer answers, as a computation: a sound session's tree is in rule, so its table is refused with 9 alone
 unfoldable pub writtenOf : Session → ℕ → Written
 writtenOf s room = cond (sound 2 s) (table.writtenOf (s .tree) room) (record { refusal = 6; bytes = 0 })
 
--- where it is refused, the output stays as it is
+-- the output that the table writer leaves; where it refuses, the output stays as it is
 unfoldable pub outputOf : Session → List ℕ → List ℕ
 outputOf s out = cond (sound 2 s) (table.outputOf (s .tree) out) out

@@ -10,8 +10,8 @@ ghost use Rattle.tree.specs.Ranges.{inRange};
 ghost use Rattle.session.specs.inner.Passes as pass;
 use rule::Rule;
 
-// The entries of all pairs of one direction: from child to parent, or from parent to child (down). Each
-// pass goes over all its places, whatever it finds.
+// Whether the entries of all pairs of one direction are within their limits: from child to parent, or
+// from parent to child (down). Each pass goes over all its places, whatever it finds.
 pub fn pairs<'a>(
     count: u16,
     twice: u32,
@@ -35,7 +35,7 @@ pub fn pairs<'a>(
     leased & counted & cached
 }
 
-// The lease numbers of the nodes from 1 on: none is above most.
+// Whether no lease number of the nodes from 1 on is above most.
 fn leases(end: usize, most: u8, lease: &[u8; 256]) -> bool
     requires { ⌜ (1 ≤ end) × (end ≤ 256) ⌝ }
     ensures { λ r. ⌜ r ≡ every (from 1 (λ i. leb (getD (now (lease .entry)) i 0) most)) end ⌝ }
@@ -49,7 +49,7 @@ fn leases(end: usize, most: u8, lease: &[u8; 256]) -> bool
     good
 }
 
-// The numbers of messages of the nodes from 1 on: none is above most.
+// Whether no number of messages of the nodes from 1 on is above most.
 fn counts(end: usize, most: u32, messages: &[u32; 256]) -> bool
     requires { ⌜ (1 ≤ end) × (end ≤ 256) ⌝ }
     ensures { λ r. ⌜ r ≡ every (from 1 (λ i. leb (getD (now (messages .entry)) i 0) most)) end ⌝ }
@@ -63,7 +63,7 @@ fn counts(end: usize, most: u32, messages: &[u32; 256]) -> bool
     good
 }
 
-// The caches of the nodes from 1 on: each is in the range of its pair's near side.
+// Whether each cache of the nodes from 1 on is in the range of its pair's near side.
 fn caches<'a>(count: u16, down: bool, sizes: &'a [u16; 256], cache: &'a [i64; 256]) -> bool
     requires { ⌜ (1 ≤ count) × (count ≤ 256) ⌝ }
     ensures { λ r. ⌜ r ≡ every (from 1 (λ i. inRange (pass.nearSize count down (getD (now (sizes .entry)) i 0)) (getD (now (cache .entry)) i (pos 0)))) count ⌝ }
@@ -78,7 +78,8 @@ fn caches<'a>(count: u16, down: bool, sizes: &'a [u16; 256], cache: &'a [i64; 25
     good
 }
 
-// No lease number from one place to before another: what is joined by `|` is zero where all of it is.
+// Whether every lease number from one place to before another is zero: what is joined by `|` is zero
+// where all of it is.
 fn no_leases(first: usize, end: usize, lease: &[u8; 256]) -> bool
     requires { ⌜ (first ≤ end) × (end ≤ 256) ⌝ }
     ensures { λ r. ⌜ r ≡ every (from first (λ i. eqb (getD (now (lease .entry)) i 0) 0)) end ⌝ }
@@ -92,7 +93,7 @@ fn no_leases(first: usize, end: usize, lease: &[u8; 256]) -> bool
     any == 0
 }
 
-// No messages.
+// Whether every number of messages from one place to before another is zero.
 fn no_counts(first: usize, end: usize, messages: &[u32; 256]) -> bool
     requires { ⌜ (first ≤ end) × (end ≤ 256) ⌝ }
     ensures { λ r. ⌜ r ≡ every (from first (λ i. eqb (getD (now (messages .entry)) i 0) 0)) end ⌝ }
@@ -106,7 +107,7 @@ fn no_counts(first: usize, end: usize, messages: &[u32; 256]) -> bool
     any == 0
 }
 
-// No cache.
+// Whether every cache from one place to before another is zero.
 fn no_caches(first: usize, end: usize, cache: &[i64; 256]) -> bool
     requires { ⌜ (first ≤ end) × (end ≤ 256) ⌝ }
     ensures { λ r. ⌜ r ≡ every (from first (λ i. inRange 0 (getD (now (cache .entry)) i (pos 0)))) end ⌝ }
@@ -120,7 +121,7 @@ fn no_caches(first: usize, end: usize, cache: &[i64; 256]) -> bool
     any == 0
 }
 
-// The values of nodes that are not there.
+// Whether the values of nodes that are not there are zero.
 pub fn values(count: u16, values: &[i32; 256]) -> bool
     requires { ⌜ count ≤ 256 ⌝ }
     ensures { λ r. ⌜ r ≡ pass.values count (now (values .entry)) ⌝ }
@@ -155,7 +156,7 @@ fn near_size(count: u16, down: bool, size: u16) -> u16
     size
 }
 
-// How many nodes are left.
+// How many of count nodes are left without size of them.
 fn rest(count: u16, size: u16) -> u16
     ensures { λ r. ⌜ r ≡ count - size ⌝ }
 {

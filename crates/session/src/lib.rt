@@ -99,8 +99,8 @@ impl Session {
     }
 
     // Writes the table of the session's tree into the first bytes, and leaves later ones as they are.
-    // Refusals: 6 the session is unsound, 9 the output is too short. Where it is refused, nothing is
-    // changed.
+    // Refusals: 6 the session is unsound, 9 the output is too short. Where writing is refused, nothing
+    // is changed.
     pub fn write_table(self, out: &mut [u8]) -> Written
         ensures { λ r. ⌜ (r ≡ writtenOf self (length (now (out .entry)))) × (now (out .exit) ≡ outputOf self (now (out .entry))) ⌝ }
     {

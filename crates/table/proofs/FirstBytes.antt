@@ -1,14 +1,12 @@
 -- Bytes that are more than any table has are refused as their first 226.
-use mathlib.Core.Path.{_≡_, refl, sym, ap, _∙_}
+use mathlib.Core.Path.{_≡_, refl, sym, _∙_}
 use mathlib.Core.List.{List}
 use mathlib.Core.Logic.{inl}
 use Prim.Native.Nat.{ℕ, zero, suc, _+_, _-_, _*_, _≤_, _<_}
 use native.Mathlib.Omega.{arith}
-use lib.ListN.{length, take}
-use lib.Seq.{length-take-le, take-all}
+use lib.ListN.{length}
 use Rattle.fields.specs.Fields.{field}
-use Rattle.fields.proofs.FirstBytes.{read-of-first}
-use Rattle.tree.proofs.Cases.{lt-or-le}
+use Rattle.fields.proofs.FirstBytes.{first-decide}
 use Rattle.table.specs.Layout.{parentPlace, long, countAt, parentAt}
 use Rattle.table.specs.Format.{Counted, GoodParents, Ruled, no-count, bad-count, no-parent, bad-parent, left-over, whole}
 use Rattle.table.specs.Reading.{readingOf}
@@ -54,9 +52,4 @@ module _ (s t : List ℕ) (ls : 226 ≤ length s) (lt : 226 ≤ length t) (same 
   same-reading (suc r) j = reading-refused t r (same-fault j) ∙ sym (reading-refused s r j)
 
 pub table-first-bytes : Table-first-bytes
-table-first-bytes s = lt-or-le 226 (length s)
-    (λ l.
-    let r : ℕ = readingOf s .refusal in
-    let kept = length-take-le 226 s (omega arith) in
-    same-reading s (take 226 s) (omega arith) (omega (arith, kept)) (read-of-first 226 s) r (table-ruled-exactly s r .0 refl))
-    (λ l. ap readingOf (take-all 226 s l))
+table-first-bytes = first-decide readingOf 226 (λ s t ls lt same. let r : ℕ = readingOf s .refusal in same-reading s t ls lt same r (table-ruled-exactly s r .0 refl))

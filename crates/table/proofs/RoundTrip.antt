@@ -1,5 +1,5 @@
 -- Tables read back as they were written, and an accepted table writes back to its own bytes.
-use mathlib.Core.Path.{_≡_, refl, sym, ap, _∙_, subst}
+use mathlib.Core.Path.{_≡_, refl, sym, ap, _∙_}
 use mathlib.Core.Bool.{Bool, true, false, cond}
 use mathlib.Core.List.{List, _++_}
 use Prim.Native.Nat.{ℕ, _-_, _≤_, _<_}
@@ -9,6 +9,7 @@ use lib.Dec.{leb}
 use lib.ListN.{length, take, drop}
 use lib.Seq.{take-at}
 use borrow.Author.Tests.{le-leb, lt-leb, leb-true, leb-false}
+use Rattle.fields.proofs.Verdicts.{verdict-exactly}
 use Rattle.packed.specs.Parts.{bytesFor, Packs}
 use Rattle.packed.proofs.Packing.{packs-packed, packed-bytes, exactly-packed}
 use Rattle.tree.specs.Parents.{InRule, inRule}
@@ -62,7 +63,7 @@ answered t room = go (inRule (t .parents) (t .count)) refl (leb (tableSize (t .c
     go true p true q = done p (leb-true _ _ q)
 
 pub table-written-exactly : Table-written-exactly
-table-written-exactly t room w = (λ e. subst (Answered t room) e (answered t room), λ a. is w a)
+table-written-exactly t room = verdict-exactly (Answered t room) (writtenOf t room) is (_, answered t room)
   where
     is : (w : Written) → Answered t room w → writtenOf t room ≡ w
     is w (six p) = unfold writtenOf in rw p

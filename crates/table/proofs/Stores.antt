@@ -19,7 +19,7 @@ use Rattle.tree.specs.declared.Tree.{Tree}
 use Rattle.tree.proofs.InRule.{in-rule-exactly}
 use Rattle.table.specs.Layout.{long, parentPlace, tableSize}
 use Rattle.table.specs.Writing.{nodeParts, tableParts, tableOf, writtenOf, outputOf}
-use Rattle.table.proofs.Widths.{width-exactly, long-le, place-zero, place-suc, place-le, place-up}
+use Rattle.table.proofs.Widths.{width-exactly, long-le, place-zero, place-suc, place-up, field-near}
 
 -- ---- zeros in the first i bytes
 
@@ -65,7 +65,7 @@ module _ (out₀ ps : List ℕ) (n : ℕ) (some : 1 ≤ n) (few : n ≤ 256) whe
 
     module _ (l : k + 1 < n) (w : ℕ) (e : w ≡ long k) where
       pub store-near : at + w ≤ 524288
-      store-near = omega (arith, long-le k (omega arith), place-le k (omega arith), i .here)
+      store-near = field-near k at w (omega arith) (i .here) e
 
       pub one-stored : Grown ps n → parentPlace (n - 1) ≤ 8 * length out₀ → (p : ℕ) → p ≡ parent ps (k + 1) → (out′ : List ℕ) → out′ ≡ putAt out at w p
           → Stored out₀ ps n out′ (at + w) (k + 1)

@@ -10,12 +10,12 @@ use lib.ListN.{length, set, replicate}
 use Rattle.fields.specs.Fields.{field}
 use Rattle.fields.specs.Usable.{fieldAt}
 use Rattle.fields.specs.declared.Field.the-variants.{Value, Short}
-use Rattle.fields.proofs.Rooms.{found, cut-off}
+use Rattle.fields.proofs.Rooms.{found, cut-off, first-found, first-cut-off}
 use Rattle.packed.specs.Parts.{ends}
 use Rattle.table.specs.Layout.{long, parentPlace, parentAt}
 use Rattle.table.specs.Format.{Counted, GoodParents, no-count, bad-count, no-parent, bad-parent}
 use Rattle.table.specs.Reading.{parentsOf, refused, readingOf}
-use Rattle.table.proofs.Widths.{long-le, place-zero, place-suc, place-le}
+use Rattle.table.proofs.Widths.{long-le, place-zero, place-suc, field-near}
 use Rattle.table.proofs.Verdicts.{right-none, right-more, ruled-end, reading-refused, reading-accepted}
 
 -- nodes 1 to k are read and right
@@ -34,7 +34,7 @@ module _ (s : List ℕ) (n : ℕ) (c : Counted s n) where
     -- at the field of node k + 1
     module _ (l : k + 1 < n) (w : ℕ) (e : w ≡ long k) where
       pub near : at + w ≤ 524288
-      near = omega (arith, long-le k (omega (arith, c .few)), place-le k (omega (arith, c .few)), i .here)
+      near = field-near k at w (omega (arith, c .few)) (i .here) e
 
       after : parentPlace (suc k) ≡ at + w
       after = omega (arith, place-suc k, i .here)
@@ -87,17 +87,14 @@ module _ (s : List ℕ) (n : ℕ) (c : Counted s n) where
 
 module _ (s : List ℕ) where
   pub count-cut : fieldAt s 0 9 ≡ Short → readingOf s ≡ refused 1
-  count-cut f = reading-refused s 0 (no-count (omega (arith, cut-off s 0 9 (omega arith) f)))
+  count-cut f = reading-refused s 0 (no-count (first-cut-off s 9 (omega arith) f))
 
   module _ (n : ℕ) (f : fieldAt s 0 9 ≡ Value n) where
-    count-there : 9 ≤ 8 * length s
-    count-there = omega (arith, found s 0 9 n f .1)
-
     pub count-none : n < 1 → readingOf s ≡ refused 2
-    count-none h = reading-refused s 1 (bad-count count-there (inl (omega (arith, found s 0 9 n f .2))))
+    count-none h = let c = first-found s 9 n f in reading-refused s 1 (bad-count (c .0) (inl (omega (arith, c .1))))
 
     pub count-many : 256 < n → readingOf s ≡ refused 2
-    count-many h = reading-refused s 1 (bad-count count-there (inr (omega (arith, found s 0 9 n f .2))))
+    count-many h = let c = first-found s 9 n f in reading-refused s 1 (bad-count (c .0) (inr (omega (arith, c .1))))
 
     pub counted : 1 ≤ n → n ≤ 256 → Counted s n
-    counted l h = record { there = count-there; count = found s 0 9 n f .2; some = l; few = h }
+    counted l h = let c = first-found s 9 n f in record { there = c .0; count = c .1; some = l; few = h }

@@ -1,5 +1,5 @@
 -- The reader's refusal is the one that the format gives.
-use mathlib.Core.Path.{_≡_, refl, sym, ap, _∙_, subst}
+use mathlib.Core.Path.{_≡_, refl, ap, _∙_}
 use mathlib.Core.Bool.{Bool, true, false, cond}
 use mathlib.Core.List.{List}
 use mathlib.Core.Logic.{inl, inr}
@@ -9,6 +9,7 @@ use native.Mathlib.Omega.{arith}
 use lib.ListN.{length}
 use borrow.Author.Tests.{le-leb, lt-leb}
 use Rattle.fields.specs.Usable.{usableBits}
+use Rattle.fields.proofs.Verdicts.{verdict-exactly}
 use Rattle.packed.specs.Parts.{ends}
 use Rattle.packed.proofs.Filling.{ends-exactly, left-over-exactly}
 use Rattle.tree.proofs.Cases.{order, lt-or-le}
@@ -100,9 +101,6 @@ ruled s = lt-or-le (8 * length s) 9
     (λ m. (2, bad-count h (inr m)))
     (λ m. ruled-nodes s (countAt s) (record { there = h; count = refl; some = l; few = m }) (countAt s - 1) 0 (omega arith) (right-none s))))
 
-pub is-ruled : (s : List ℕ) (r : ℕ) → refusalOf s ≡ r → Ruled s r
-is-ruled s r e = let j = ruled s in subst (Ruled s) (sym (ruled-once s (j .0) (j .1)) ∙ e) (j .1)
-
 -- ---- the answer
 
 answer-refusal : (r : ℕ) (t : Tree) → answer r t .refusal ≡ r
@@ -114,7 +112,7 @@ unfolding readingOf
 reading-refusal s = answer-refusal (refusalOf s) (treeOf s)
 
 pub table-ruled-exactly : Table-ruled-exactly
-table-ruled-exactly s r = (λ e. is-ruled s r (sym (reading-refusal s) ∙ e), λ j. reading-refusal s ∙ ruled-once s r j)
+table-ruled-exactly s = verdict-exactly (Ruled s) (readingOf s .refusal) (λ r j. reading-refusal s ∙ ruled-once s r j) (ruled s)
 
 pub reading-refused : (s : List ℕ) (r : ℕ) → Ruled s (suc r) → readingOf s ≡ refused (suc r)
 unfolding readingOf

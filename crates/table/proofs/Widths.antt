@@ -32,6 +32,10 @@ unfolding parentPlace
 place-le zero h = omega arith
 place-le (suc k) h = omega (arith, place-le k (omega arith), long-le k (omega arith))
 
+-- a parent field of up to 256 nodes ends within the usable bytes
+pub field-near : (k at w : ℕ) → k < 256 → at ≡ parentPlace k → w ≡ long k → at + w ≤ 524288
+field-near k at w h a e = omega (arith, long-le k h, place-le k (omega arith))
+
 -- where the fields of 256 nodes end
 pub place-last : parentPlace 255 ≡ 1794
 unfolding parentPlace long leadingZeros

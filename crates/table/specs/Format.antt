@@ -8,7 +8,7 @@ use Rattle.fields.specs.Fields.{field}
 use Rattle.packed.specs.Parts.{left}
 use Rattle.table.specs.Layout.{parentPlace, tableSize, countAt, parentAt}
 
--- the count is there, and it is 1 to 256
+-- the count n of a table is there, and it is 1 to 256
 pub record Counted (s : List ℕ) (n : ℕ) : Type 0 where
   pub there : 9 ≤ 8 * length s
   pub count : n ≡ countAt s
@@ -20,7 +20,7 @@ pub record GoodParent (s : List ℕ) (k : ℕ) : Type 0 where
   pub there : parentPlace (suc k) ≤ 8 * length s
   pub smaller : parentAt s k < suc k
 
--- the same of nodes 1 to k
+-- the parent fields of nodes 1 to k are there, and each parent is smaller than its node
 abbrev pub GoodParents : List ℕ → ℕ → Type 0
 GoodParents s k = (j : ℕ) → j < k → GoodParent s j
 

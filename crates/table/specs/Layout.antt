@@ -18,7 +18,7 @@ parentPlace (suc k) = parentPlace k + long k
 abbrev pub tableSize : ℕ → ℕ
 tableSize n = bytesFor (parentPlace (n - 1))
 
--- the count, and the parent of node k + 1
+-- the count that stands in a table, and the parent of node k + 1
 abbrev pub countAt : List ℕ → ℕ
 countAt s = field s 0 9
 

@@ -18,11 +18,11 @@ use Rattle.table.specs.declared.Written.{Written}
 abbrev pub Width-exactly : Type 0
 Width-exactly = (k : ℕ) → k < 2 ^ 64 → (k < 2 ^ long k) × (2 ^ long k ≤ 2 * k + 1)
 
--- The reader refuses exactly as the format says,
+-- The table's reader refuses exactly as the format says.
 abbrev pub Table-ruled-exactly : Type 0
 Table-ruled-exactly = (s : List ℕ) (r : ℕ) → (readingOf s .refusal ≡ r) ↔ Ruled s r
 
--- and answers zeros where it refuses.
+-- The table's reader answers zeros where it refuses.
 abbrev pub Table-refused-with-zeros : Type 0
 Table-refused-with-zeros = (s : List ℕ) → 0 < readingOf s .refusal → readingOf s ≡ refused (readingOf s .refusal)
 
@@ -44,10 +44,10 @@ abbrev pub Table-writes-back : Type 0
 Table-writes-back = (s : List ℕ) (t : Tree) (out : List ℕ) → Bytes s → readingOf s ≡ accepted t → length s ≤ length out
     → (writtenOf t (length out) ≡ record { refusal = 0; bytes = length s }) × (outputOf t out ≡ s ++ drop (length s) out)
 
--- The writer refuses exactly as document 01 says,
+-- The table's writer refuses exactly as document 01 says.
 abbrev pub Table-written-exactly : Type 0
 Table-written-exactly = (t : Tree) (room : ℕ) (w : Written) → (writtenOf t room ≡ w) ↔ Answered t room w
 
--- and changes nothing where it refuses.
+-- The table's writer changes nothing where it refuses.
 abbrev pub Refused-output-kept : Type 0
 Refused-output-kept = (t : Tree) (out : List ℕ) → 0 < writtenOf t (length out) .refusal → outputOf t out ≡ out

@@ -20,7 +20,7 @@ nodeParts ps k (suc m) = record { width = long k; number = parent ps (suc k) } �
 abbrev pub tableParts : Tree → List Part
 tableParts t = record { width = 9; number = t .count } ∷ nodeParts (t .parents) 0 (t .count - 1)
 
--- its bytes
+-- the bytes of a tree's table
 abbrev pub tableOf : Tree → List ℕ
 tableOf t = packed (tableParts t)
 
@@ -30,13 +30,13 @@ pub data Answered (t : Tree) (room : ℕ) : Written → Type 0 where
   nine : inRule (t .parents) (t .count) ≡ true → room < tableSize (t .count) → Answered t room (record { refusal = 9; bytes = 0 })
   done : inRule (t .parents) (t .count) ≡ true → tableSize (t .count) ≤ room → Answered t room (record { refusal = 0; bytes = tableSize (t .count) })
 
--- the same as a computation
+-- what the writer answers, as a computation
 unfoldable pub writtenOf : Tree → ℕ → Written
 writtenOf t room =
     cond (inRule (t .parents) (t .count))
     (cond (leb (tableSize (t .count)) room) (record { refusal = 0; bytes = tableSize (t .count) }) (record { refusal = 9; bytes = 0 }))
     (record { refusal = 6; bytes = 0 })
 
--- the table and later bytes as they were; all as it was where it is refused
+-- the output that the writer leaves: the table, and later bytes as they were; all bytes as they were where it refuses
 unfoldable pub outputOf : Tree → List ℕ → List ℕ
 outputOf t out = cond (inRule (t .parents) (t .count) && leb (tableSize (t .count)) (length out)) (tableOf t ++ drop (tableSize (t .count)) out) out

@@ -45,7 +45,8 @@ pub fn read(bytes: &[u8]) -> Reading
 }
 
 // Writes the table of a tree into the first bytes, and leaves later ones as they are. Refusals: 6 the
-// tree is out of rule, 9 the output is too short. Where it is refused, nothing is changed.
+// tree is out of rule, 9 the output is too short. Where writing is refused, nothing
+// is changed.
 pub fn write(tree: Tree, out: &mut [u8]) -> Written
     ensures { λ r. ⌜ (r ≡ writtenOf tree (length (now (out .entry)))) × (now (out .exit) ≡ outputOf tree (now (out .entry))) ⌝ }
 {

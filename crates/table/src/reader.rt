@@ -40,7 +40,7 @@ pub fn nodes(bytes: &[u8], count: usize) -> Reading
     }
 }
 
-// A refusal, and zeros.
+// What reading a refused table answers: its number, and zeros.
 pub fn refused(number: u8) -> Reading
     ensures { λ r. ⌜ r ≡ Reading·refused number ⌝ }
 {

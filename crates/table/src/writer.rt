@@ -23,7 +23,7 @@ pub fn table_size(count: usize) -> usize
     (place + 7) / 8
 }
 
-// Zeros in the first bytes.
+// Makes the first bytes zero.
 pub fn clear(out: &mut [u8], bytes: usize)
     requires { ⌜ bytes ≤ length (now out) ⌝ }
     ensures { λ _. ⌜ now (out .exit) ≡ replicate bytes 0 ++ drop bytes (now (out .entry)) ⌝ }
@@ -35,7 +35,7 @@ pub fn clear(out: &mut [u8], bytes: usize)
     }
 }
 
-// The parents of nodes 1 to count - 1, each in its place.
+// Writes the parents of nodes 1 to count - 1, each in its place.
 pub fn parents(out: &mut [u8], parents: &[u8; 256], count: usize)
     requires { ⌜ (1 ≤ count) × ((count ≤ 256) × (Grown (now parents) count × (parentPlace (count - 1) ≤ 8 * length (now out)))) ⌝ }
     ensures { λ _. ⌜ now (out .exit) ≡ putAll (now (out .entry)) 9 (nodeParts (now (parents .entry)) 0 (count - 1)) ⌝ }

@@ -17,13 +17,9 @@ use Rattle.messages.specs.declared.Recorded.{Recorded}
 use Rattle.trace.specs.inner.Traces.{Trace, trace, pushed, pushedAll, messagesIn, messagesOf, Writing, writing, placed, noted, notedAll}
 use Rattle.trace.specs.Promises.{Trace-holds}
 use Rattle.messages.proofs.Coding.{coded-back}
+use Rattle.messages.proofs.Stretches.{bits-append}
 
 -- ---- one message more
-
-bits-more : (ms : List Message) (m : Message) → bitsOfAll (ms ++ (m ∷ [])) ≡ bitsOfAll ms + bitsOf m
-unfolding bitsOfAll
-bits-more [] m = omega arith
-bits-more (p ∷ ms) m = omega (arith, bits-more ms m)
 
 noted-more : (ms : List Message) (m : Message) (w : Writing) → notedAll (ms ++ (m ∷ [])) w ≡ noted m (notedAll ms w)
 unfolding notedAll
@@ -32,8 +28,8 @@ noted-more (p ∷ ms) m w = noted-more ms m (noted p w)
 
 module _ (ns : List ℕ) (i : ℕ) (m : Message) (next : m ≡ decoded (getD ns i 0)) where
   pub bits-next : (bits w : ℕ) → bits ≡ bitsOfAll (messagesIn ns i) → w ≡ bitsOf m → bits + w ≡ bitsOfAll (messagesIn ns (i + 1))
-  unfolding messagesIn
-  bits-next bits w e f = rw (add-one, e, f, next) (sym (bits-more (messagesIn ns i) (decoded (getD ns i 0))))
+  unfolding messagesIn bitsOfAll
+  bits-next bits w e f = rw (add-one, e, f, next) (omega (arith, bits-append (messagesIn ns i) (decoded (getD ns i 0) ∷ [])))
 
   pub noted-next : (w : Writing) {s s′ : List ℕ} {at at′ : ℕ} {x : Recorded} → writing s at ≡ notedAll (messagesIn ns i) w → x ≡ recordedOf (length s) at m → s′ ≡ logAfter s at m → at′ ≡ placed x at
       → writing s′ at′ ≡ notedAll (messagesIn ns (i + 1)) w

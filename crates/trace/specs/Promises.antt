@@ -15,11 +15,11 @@ abbrev pub Trace-holds : Type 0
 Trace-holds = (ms : List Message) (ns numbers : List ℕ) (len : ℕ) → AllSized ms → length ms ≤ 510 → length ns ≡ 510 → trace numbers len ≡ pushedAll ms (trace ns 0)
     → (len ≡ length ms) × (messagesOf numbers len ≡ ms)
 
--- A trace's messages are logged exactly where there is room for all their records,
+-- A trace's messages are logged exactly where there is room for all their records.
 abbrev pub Trace-logged-exactly : Type 0
 Trace-logged-exactly = (n place next : ℕ) (ms : List Message) → (toldLogged (loggedOf n place ms) ≡ (0, next)) ↔ ((place + bitsOfAll ms ≤ usableBits n) × (next ≡ place + bitsOfAll ms))
 
--- and refused with 9 exactly where there is not; then the log stays as it was.
+-- A trace's messages are refused with 9 exactly where there is no room for all their records; then the log stays as it was.
 abbrev pub Trace-full-exactly : Type 0
 Trace-full-exactly = (n place : ℕ) (ms : List Message) → (toldLogged (loggedOf n place ms) ≡ (9, 0)) ↔ (usableBits n < place + bitsOfAll ms)
 

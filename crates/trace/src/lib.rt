@@ -13,14 +13,14 @@ use messages::Recorded;
 
 // What logging a trace answers.
 pub enum Logged {
-    // the place after its last record
+    // the place after the trace's last record
     Next(usize),
     // the place is past the usable log, or there are too few bits for all records
     Full,
 }
 
-// One message more, and the length then. Where its value does not fit 40 bits, or the trace is full,
-// nothing is added, and the length is the one that was handed in.
+// Pushes a message, and answers the length then. Where its value does not fit 40 bits, or the trace is
+// full, nothing is added, and the length is the one that was handed in.
 pub fn push(trace: &mut [u64; 510], len: usize, message: Message) -> usize
     ensures { λ r. ⌜ spec.trace (now (trace .exit)) r ≡ spec.pushed message (spec.trace (now (trace .entry)) len) ⌝ }
 {
@@ -84,7 +84,7 @@ fn most(len: usize) -> usize
     if len < 510 { len } else { 510 }
 }
 
-// The place after a message was written; as it was where it was not.
+// The place after a message was written; the same place where it was not written.
 fn placed(written: Recorded, place: usize) -> usize
     ensures { λ r. ⌜ r ≡ spec.placed written place ⌝ }
 {

@@ -67,17 +67,17 @@ range-of-one z = (λ r. one z (numbers 1 z r), λ e. range 1 z (back z (ltb-true
     back (pos n) h = omega arith
     back (negsuc n) h = omega arith
 
+pub nothing-in : (k : ℕ) → Range k (pos 0)
+nothing-in k = range k (pos 0) (omega arith)
+
 pub range-of-nodes : Range-of-nodes
 range-of-nodes f test n h =
-    related plus sum (λ k z. Range k z) (nothing 0) (λ j k y z r s. range-adds j k y z r s)
+    related plus sum (λ k z. Range k z) (nothing-in 0) (λ j k y z r s. range-adds j k y z r s)
     (λ j. pick plus (test j) 1) (λ j. pick sum (test j) (f j)) n (λ j l. one (test j) (f j) (h j l))
   where
-    nothing : (k : ℕ) → Range k (pos 0)
-    nothing k = range k (pos 0) (omega arith)
-
     one : (b : Bool) (z : ℤ) → Range 1 z → Range (pick plus b 1) (pick sum b z)
     one true z r = r
-    one false z r = nothing 0
+    one false z r = nothing-in 0
 
 pub range-fits : Range-fits
 range-fits k z l r = go z (numbers k z r)

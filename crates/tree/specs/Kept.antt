@@ -2,7 +2,7 @@
 use mathlib.Core.Bool.{Bool, true, false, cond}
 use mathlib.Core.List.{List, [], _∷_}
 
--- l where the test holds
+-- the list l where the test holds, no elements where it does not
 abbrev pub when : {M : Type 0} → Bool → List M → List M
 when b l = cond b l []
 

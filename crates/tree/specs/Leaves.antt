@@ -7,13 +7,13 @@ use Prim.Native.Nat.{ℕ, suc, _-_, _<_}
 use lib.Dec.{ltb}
 use Rattle.tree.specs.Parents.{parent}
 
--- qs is ps with a leaf more: it has the number n and the parent p
+-- qs is ps with one leaf more, which has the number n and the parent p
 pub record Joins (ps : List ℕ) (n p : ℕ) (qs : List ℕ) : Type 0 where
   pub there : p < n
   pub old : (j : ℕ) → j < n → parent qs j ≡ parent ps j
   pub new : parent qs n ≡ p
 
--- numbers above x go down by one; and back
+-- the new number of a node where the leaf x goes, and the old number of a new one: numbers above x go down by one
 abbrev pub newNumber : ℕ → ℕ → ℕ
 newNumber x j = cond (ltb x j) (j - 1) j
 

@@ -15,12 +15,12 @@ pub record Op (A : Type 0) : Type 0 where
   pub idem : ε ⊕ ε ≡ ε
 
 module _ {A : Type 0} (op : Op A) where
-  -- f 0 to f (n - 1), one after the other
+  -- f 0 to f (n - 1) joined, one after the other
   abbrev pub fold : (ℕ → A) → ℕ → A
   fold f zero = op .ε
   fold f (suc n) = op ._⊕_ (fold f n) (f n)
 
-  -- x where the test holds
+  -- x where the test holds, ε where it does not
   abbrev pub pick : Bool → A → A
   pick b x = cond b x (op .ε)
 

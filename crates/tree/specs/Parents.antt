@@ -27,7 +27,7 @@ pub record InRule (ps : List ℕ) (n : ℕ) : Type 0 where
   pub grown : Grown ps n
   pub unused : (i : ℕ) → i < 256 → (i ≡ 0) ⊎ (n ≤ i) → parent ps i ≡ 0
 
--- the same as a test: of p as the entry at i, of the tree's entry at i, and of the tree
+-- the rule as a test: of p as the entry at i, of the tree's entry at i, and of the tree
 unfoldable pub entryInRule : ℕ → ℕ → ℕ → Bool
 entryInRule n i p = cond (ltb 0 i && ltb i n) (ltb p i) (eqb p 0)
 

@@ -19,7 +19,7 @@ use Rattle.tree.specs.Kept.{when, kept}
 use Rattle.tree.specs.inner.Tours.{tour, Closed, OfItsPair}
 use Rattle.tree.specs.Leaves.{Joins, Goes, oldNumber}
 
--- The test of a tree says what it should.
+-- The test of a tree holds exactly where the tree is in rule.
 abbrev pub In-rule-exactly : Type 0
 In-rule-exactly = (ps : List ℕ) (n : ℕ) → (inRule ps n ≡ true) ↔ InRule ps n
 
@@ -38,22 +38,22 @@ Sizes-add = (ps : List ℕ) (n : ℕ) → Grown ps n → (u v : ℕ) → u < n �
 abbrev pub Points-exactly : Type 0
 Points-exactly = (ps : List ℕ) (n : ℕ) → Grown ps n → (u v x : ℕ) → u < n → v < n → x < n → adjacent ps u v ≡ true → (pointsTo ps u v x ≡ true) ↔ Way ps n u v x
 
--- For different neighbours r and v of u the side of (r,u) lies within that of (u,v),
+-- For different neighbours r and v of u, r's side of (r,u) lies within u's side of (u,v).
 abbrev pub Nested : Type 0
 Nested = (ps : List ℕ) (n : ℕ) → Grown ps n → (u r v j : ℕ) → u < n → j < n → adjacent ps r u ≡ true → adjacent ps v u ≡ true → r ≢ v
     → side ps r u j ≡ true → side ps u v j ≡ true
 
--- so what points to x stays so further out.
+-- For different neighbours r and v of u, (r,u) points to x where (u,v) does.
 abbrev pub Outward : Type 0
 Outward = (ps : List ℕ) (n : ℕ) → Grown ps n → (u r v x : ℕ) → u < n → x < n → adjacent ps r u ≡ true → adjacent ps v u ≡ true → r ≢ v
     → pointsTo ps u v x ≡ true → pointsTo ps r u x ≡ true
 
--- The aggregate of u's side of (u,v) is u's own value and the aggregates of the sides (w,u) of its other neighbours,
+-- The aggregate of u's side of (u,v) is u's own value and the aggregates of the sides (w,u) of its other neighbours.
 abbrev pub Side-law : Type 1
 Side-law = (ps : List ℕ) (n : ℕ) → Grown ps n → (A : Type 0) (op : Op A) (f : ℕ → A) (u v : ℕ) → u < n → adjacent ps v u ≡ true
     → aggregate op f (side ps u v) n ≡ op ._⊕_ (f u) (aggregate op (λ w. aggregate op f (side ps w u) n) (other ps u v) n)
 
--- and the whole is any node's own value and the aggregates of the sides of all its neighbours.
+-- The aggregate of the whole is any node's own value and the aggregates of the sides of all its neighbours.
 abbrev pub Whole-law : Type 1
 Whole-law = (ps : List ℕ) (n : ℕ) → Grown ps n → (A : Type 0) (op : Op A) (f : ℕ → A) (x : ℕ) → x < n
     → fold op f n ≡ op ._⊕_ (f x) (aggregate op (λ w. aggregate op f (side ps w x) n) (λ w. adjacent ps w x) n)
@@ -74,7 +74,7 @@ abbrev pub Count-is-enough : Type 1
 Count-is-enough = (ps : List ℕ) (n : ℕ) → Grown ps n → (M : Type 0) (go : ℕ → ℕ → Bool) (before after : ℕ → ℕ → List M) (k x : ℕ) → n ≤ k → x < n
     → tour ps n go before after k x ≡ tour ps n go before after n x
 
--- A leaf that joins leaves a tree, with the neighbours and the sides as they were,
+-- A leaf that joins leaves a tree, with the neighbours and the sides as they were.
 abbrev pub Join-grown : Type 0
 Join-grown = (ps : List ℕ) (n p : ℕ) (qs : List ℕ) → Grown ps n → Joins ps n p qs → Grown qs (suc n)
 
@@ -84,7 +84,7 @@ Join-adjacent = (ps : List ℕ) (n p : ℕ) (qs : List ℕ) → Grown ps n → J
 abbrev pub Join-side : Type 0
 Join-side = (ps : List ℕ) (n p : ℕ) (qs : List ℕ) → Grown ps n → Joins ps n p qs → (u v j : ℕ) → u < n → v < n → j < n → side qs u v j ≡ side ps u v j
 
--- and is itself on the side that its parent is on.
+-- A leaf that joins is on the side that its parent is on.
 abbrev pub Join-leaf : Type 0
 Join-leaf = (ps : List ℕ) (n p : ℕ) (qs : List ℕ) → Grown ps n → Joins ps n p qs → (u v : ℕ) → u < n → v < n → side qs u v n ≡ side ps u v p
 
@@ -105,17 +105,17 @@ Sizes-read = (ps : List ℕ) (n : ℕ) → InRule ps n → (i : ℕ) → i < 256
 abbrev pub Size-below : Type 0
 Size-below = (ps : List ℕ) (n : ℕ) → Grown ps n → (i : ℕ) → 0 < i → i < n → sizeBelow ps n i ≡ size ps n i (parent ps i)
 
--- A value is in the range of one node exactly where it has 32 bits,
+-- A value is in the range of one node exactly where it has 32 bits.
 abbrev pub Range-of-one : Type 0
 Range-of-one = (z : ℤ) → Range 1 z ↔ (within 32 z ≡ true)
 
--- ranges add, so that an aggregate over k nodes is in the range of k,
+-- Ranges add, so that an aggregate over k nodes is in the range of k.
 abbrev pub Range-adds : Type 0
 Range-adds = (j k : ℕ) (y z : ℤ) → Range j y → Range k z → Range (j + k) (y +ℤ z)
 
 abbrev pub Range-of-nodes : Type 0
 Range-of-nodes = (f : ℕ → ℤ) (test : ℕ → Bool) (n : ℕ) → ((j : ℕ) → j < n → Range 1 (f j)) → Range (aggregate plus (λ j. 1) test n) (aggregate sum f test n)
 
--- and the range of up to 256 nodes has the 40 bits of a message.
+-- A value in the range of up to 256 nodes has the 40 bits of a message.
 abbrev pub Range-fits : Type 0
 Range-fits = (k : ℕ) (z : ℤ) → k ≤ 256 → Range k z → within 40 z ≡ true

@@ -11,7 +11,7 @@ climb ps i zero j = eqb j i
 climb ps i (suc k) zero = eqb zero i
 climb ps i (suc k) (suc j) = eqb (suc j) i || climb ps i k (parent ps (suc j))
 
--- j is i, or below it
+-- node j is node i, or below it
 unfoldable pub below : List ℕ → ℕ → ℕ → Bool
 below ps i j = climb ps i j j
 
@@ -19,7 +19,7 @@ below ps i j = climb ps i j j
 unfoldable pub nodes : ℕ → ℕ → ℕ → Bool
 nodes n u w = ltb u n && ltb w n
 
--- they are, and j is i or below it
+-- i and j are nodes in a tree of n, and j is i or below it
 unfoldable pub isBelow : List ℕ → ℕ → ℕ → ℕ → Bool
 isBelow ps n i j = nodes n i j && below ps i j
 
@@ -27,7 +27,7 @@ isBelow ps n i j = nodes n i j && below ps i j
 abbrev pub adjacent : List ℕ → ℕ → ℕ → Bool
 adjacent ps u w = cond (ltb u w) (eqb (parent ps w) u) (ltb w u && eqb (parent ps u) w)
 
--- they are nodes, and have an edge
+-- u and w are nodes in a tree of n, and have an edge between them
 unfoldable pub neighbours : List ℕ → ℕ → ℕ → ℕ → Bool
 neighbours ps n u w = nodes n u w && adjacent ps u w
 

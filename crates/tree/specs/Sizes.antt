@@ -8,11 +8,11 @@ use Rattle.tree.specs.Parents.{inRule}
 use Rattle.tree.specs.Sides.{below, side}
 use Rattle.tree.specs.Operation.{aggregate, plus}
 
--- the nodes on u's side of its edge to v
+-- how many nodes are on u's side of its edge to v
 abbrev pub size : List ℕ → ℕ → ℕ → ℕ → ℕ
 size ps n u v = aggregate plus (λ j. 1) (side ps u v) n
 
--- the nodes at or below node i
+-- how many nodes are at or below node i
 abbrev pub sizeBelow : List ℕ → ℕ → ℕ → ℕ
 sizeBelow ps n i = aggregate plus (λ j. 1) (below ps i) n
 

@@ -26,7 +26,7 @@ pub fn is_below(count: usize, parents: &[u8; 256], i: usize, j: usize) -> bool
     false
 }
 
-// Whether both are nodes.
+// Whether u and w are both nodes.
 pub fn nodes(count: usize, u: usize, w: usize) -> bool
     ensures { λ r. ⌜ r ≡ sides.nodes count u w ⌝ }
 {
@@ -36,7 +36,7 @@ pub fn nodes(count: usize, u: usize, w: usize) -> bool
     false
 }
 
-// Whether the smaller of two is the parent of the larger.
+// Whether of u and w the smaller is the parent of the larger.
 pub fn adjacent(parents: &[u8; 256], u: usize, w: usize) -> bool
     requires { ⌜ length (now parents) ≡ 256 ⌝ }
     ensures { λ r. ⌜ r ≡ sides.adjacent (now (parents .entry)) u w ⌝ }

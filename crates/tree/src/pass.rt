@@ -2,7 +2,7 @@
 use crate::edge;
 use crate::entry;
 ghost use mathlib.Core.Path.{_≡_};
-ghost use Prim.Native.Nat.{_≤_, _<_};
+ghost use Prim.Native.Nat.{_≤_};
 ghost use Rattle.tree.specs.Parents.{Grown};
 ghost use Rattle.tree.specs.Sizes as spec;
 ghost use Rattle.tree.specs.Sizes.{sizeBelow, listed, ones};
@@ -34,7 +34,7 @@ pub fn summed(count: usize, parents: &[u8; 256]) -> [u16; 256]
     size
 }
 
-// Every node by itself.
+// The sizes of nodes with none below them: 1 for each node, 0 where there is none.
 pub fn alone(count: usize) -> [u16; 256]
     requires { ⌜ count ≤ 256 ⌝ }
     ensures { λ r. ⌜ r ≡ listed (ones count) 256 ⌝ }

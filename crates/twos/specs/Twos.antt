@@ -41,7 +41,7 @@ encoded w z = cond (encodes w z) (encoding.Number (twos w z)) encoding.Misfit
 unfoldable pub decoded : ℕ → ℕ → Decoded
 decoded w n = cond (decodes w n) (decoding.Value (signed w n)) decoding.Misfit
 
--- the value as an i32, where it is one
+-- the value of a number as an i32, where it fits one
 abbrev pub narrowed : Decoded → Decoded32
 narrowed (decoding.Value z) = cond (within 32 z) (decoding32.Value z) decoding32.Misfit
 narrowed decoding.Misfit = decoding32.Misfit
@@ -49,7 +49,7 @@ narrowed decoding.Misfit = decoding32.Misfit
 unfoldable pub decoded32 : ℕ → ℕ → Decoded32
 decoded32 w n = narrowed (decoded w n)
 
--- document 01's number and value: 11 is a value that does not fit. Document 01 says so of the log's 40 bits; at other widths it is the same fault.
+-- document 01's number for what was answered, and the value: 11 is a value that does not fit. Document 01 says so of the log's 40 bits; at other widths it is the same fault.
 abbrev pub toldEncoded : Encoded → ℕ × ℕ
 toldEncoded (encoding.Number n) = (0, n)
 toldEncoded encoding.Misfit = (11, 0)

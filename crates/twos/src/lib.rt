@@ -20,10 +20,10 @@ pub enum Decoded {
     Misfit,
 }
 
-// The same as an i32.
+// What the number in a field of so many bits stands for, as an i32.
 pub enum Decoded32 {
     Value(i32),
-    // as above, or the value has no place in an i32
+    // the field has no such number, or is not 1 to 64 bits wide, or the value has no place in an i32
     Misfit,
 }
 
@@ -37,7 +37,7 @@ pub fn encode(value: i64, width: usize) -> Encoded
     Encoded::Misfit
 }
 
-// The same of an i32.
+// The number that stands for an i32 in a field of width bits, two's complement.
 pub fn encode32(value: i32, width: usize) -> Encoded
     ensures { λ r. ⌜ r ≡ encoded width value ⌝ }
 {
@@ -54,7 +54,7 @@ pub fn decode(number: u64, width: usize) -> Decoded
     Decoded::Misfit
 }
 
-// The same as an i32.
+// The i32 that number stands for in a field of width bits, two's complement.
 pub fn decode32(number: u64, width: usize) -> Decoded32
     ensures { λ r. ⌜ r ≡ decoded32 width number ⌝ }
 {

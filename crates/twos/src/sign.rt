@@ -59,7 +59,7 @@ fn half_of(width: usize) -> u64
     1u64 << (width - 1)
 }
 
-// n for the value n, and for -1 - n.
+// The magnitude of a value: n of the value n, and of -1 - n.
 pub fn magnitude(value: i64) -> u64
     ensures { λ r. ⌜ r ≡ mag value ⌝ }
 {
@@ -69,7 +69,7 @@ pub fn magnitude(value: i64) -> u64
     (-1 - value) as u64
 }
 
-// -1 - n
+// The value -1 - n.
 fn below_zero(n: u64) -> i64
     requires { ⌜ n < 2 ^ 63 ⌝ }
     ensures { λ r. ⌜ r ≡ negsuc n ⌝ }

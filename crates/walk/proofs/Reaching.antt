@@ -2,7 +2,7 @@
 use mathlib.Core.Path.{_≡_, refl, sym, _∙_}
 use mathlib.Core.Bool.{Bool, true, false, not, cond, _&&_}
 use mathlib.Core.Logic.{_≢_}
-use Prim.Native.Nat.{ℕ, suc, _+_, _-_, _*_, _<_, _≤_}
+use Prim.Native.Nat.{ℕ, suc, _+_, _-_, _<_, _≤_}
 use native.Mathlib.Nat.{le-refl, add-zero, zero-add}
 use native.Mathlib.Decide.{ℕ-discrete}
 use native.Mathlib.Omega.{arith}
@@ -12,30 +12,26 @@ use mir.Syntax.{w64}
 use mir.Val.{SFits}
 use borrow.Author.Tests.{eq-eqb, ne-eqb, eqb-false}
 use Rattle.tree.specs.Operation.{fold, pick, plus, sum}
-use Rattle.tree.specs.Ranges.{Range, inRange}
+use Rattle.tree.specs.Ranges.{Range}
 use Rattle.tree.specs.Sides.{adjacent, side, other}
 use Rattle.tree.specs.Sizes.{size}
 use Rattle.tree.specs.Turns.{turn}
 use Rattle.tree.proofs.Cases.{either}
 use Rattle.tree.proofs.Folds.{related}
-use Rattle.tree.proofs.Ranges.{range-adds, range-fits}
+use Rattle.tree.proofs.Ranges.{nothing-in, range-adds, range-fits}
 use Rattle.tree.proofs.SideLaw.{side-law}
 use Rattle.tree.proofs.Sizes.{sizes-add}
 use Rattle.tree.proofs.Toward.{adjacent-sym}
 use Rattle.tree.proofs.Turns.{turn-inside, any-order}
 use Rattle.mechanism.specs.Views.{View}
 use Rattle.mechanism.specs.Spreading.{carried}
-use Rattle.mechanism.proofs.Others.{others, all-others, fold-most, fold-first, beyond}
+use Rattle.mechanism.proofs.Others.{others, fold-first, around, beyond}
 use Rattle.mechanism.proofs.Ranging.{wider, side-in}
 use Rattle.walk.specs.inner.Laters.{knownBy, known, away, later}
 use Rattle.walk.specs.inner.Telling.{Steady, Come, before}
 use Rattle.walk.proofs.Fitting.{fits-wide}
 use Rattle.walk.proofs.Split.{told-by}
 use Rattle.walk.proofs.Halves.{cut, fromOther, fromAway, before-is, later-is}
-
-nothing-in : (k : ℕ) → Range k (pos 0)
-unfolding inRange
-nothing-in k = wider 0 k (pos 0) (omega arith) (record { within = refl })
 
 -- what is in the range of no more nodes than there are fits
 pub range-wide : (n k : ℕ) (z : ℤ) → n ≤ 256 → k ≤ n → Range k z → SFits w64 z
@@ -67,22 +63,9 @@ module _ (q : View) (steady : Steady q) where
       one c true false r = nothing-in 0
       one c false t r = nothing-in 0
 
-  -- u, and the nodes beyond those neighbours, are at most all nodes
-  around : (b : ℕ → Bool) (u : ℕ) → u < q .count → 1 + fold plus (λ c. many (adjacent (q .parents) c u && b c) c u) (q .count) ≤ q .count
-  around b u hu = omega (
-    arith,
-    beyond (q .parents) (q .count) (steady .grown) u u hu,
-    fold-most 1 (λ c. many (adjacent (q .parents) c u && b c) c u) (λ c. many (other (q .parents) u u c) c u) (q .count) (λ c h. rw (all-others (q .parents) u c) (one (adjacent (q .parents) c u) (b c) (size (q .parents) (q .count) c u))),
-  )
-    where
-      one : (a t : Bool) (k : ℕ) → pick plus (a && t) k ≤ 1 * pick plus a k
-      one true true k = omega arith
-      one true false k = omega arith
-      one false t k = omega arith
-
   pub later-in : (x u m : ℕ) → u < q .count → m ≤ q .count → Range (q .count) (later q x u m)
   later-in x u m hu l = rw (later-is q x u m) (wider (fold plus back m) (q .count) (fold sum (λ i. fromAway q x u (turn (q .count) u (q .count - suc i))) m)
-      (omega (arith, around (λ c. not (side (q .parents) c u x)) u hu, any-order (q .count) u hu ℕ plus term, reversed, fold-first back m (q .count) l))
+      (omega (arith, around (q .parents) (q .count) (steady .grown) (λ c. not (side (q .parents) c u x)) u hu, any-order (q .count) u hu ℕ plus term, reversed, fold-first back m (q .count) l))
       (known-fold (λ c. not (side (q .parents) c u x)) (λ i. turn (q .count) u (q .count - suc i)) u m hu (λ i h. turn-inside (q .count) u hu (q .count - suc i) (omega arith))))
     where
       term : ℕ → ℕ

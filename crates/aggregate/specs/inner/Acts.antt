@@ -46,30 +46,30 @@ pub record Servable (s : Session) (first next : List ℕ) : Type 0 where
 unfoldable pub earlyRefusal : ℕ → ℕ → ℕ → ℕ
 earlyRefusal count accepted x = cond (ltb x count) (cond (ltb accepted limit) 0 8) 7
 
--- a write sets its value
+-- the values before the walk of an act: a write sets its value
 abbrev pub begun : Act → ℕ → List ℤ → List ℤ
 begun Combine x vs = vs
 begun (Write z) x vs = set vs x z
 
--- then its walk is made
+-- the sum and the messages of the walk of an act
 abbrev pub walked : Act → View → ℕ → Said
 walked Combine q x = combine sum q x
 walked (Write z) q x = said (pos 0) (write sum q x)
 
--- either walk can be made from x
+-- the walk of any act can be made from x
 pub record Walkable (q : View) (first next : List ℕ) (x : ℕ) : Type 0 where
   pub inside : x < q .count
   pub fit : SumsFit q
   pub steady : Steady q
   pub linked : Linked (q .count) (q .parents) first next
 
--- what it leaves: its sum, and its messages after those of t, which has room for 510
+-- what the walk of an act leaves: its sum, and its messages after those of t, which has room for 510
 pub record Walked (a : Act) (q : View) (x : ℕ) (z : ℤ) (t t′ : Trace) : Type 0 where
   pub room : length (t .numbers) ≡ 510
   pub sums : z ≡ walked a q x .sum
   pub logs : t′ ≡ pushedAll (walked a q x .log) t
 
--- at last a combine raises every pair that points to x
+-- the lease numbers after an act, of each direction: a combine raises those of every pair that points to x
 abbrev pub upSettled : Act → List ℕ → ℕ → ℕ → List ℕ → List ℕ
 upSettled Combine ps n x l = upRaised ps n 2 x l
 upSettled (Write z) ps n x l = l

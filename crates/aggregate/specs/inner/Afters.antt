@@ -15,7 +15,7 @@ pairsOf leases caches counts = record { lease = leases; cache = caches; messages
 abbrev pub linksBy : List ℕ → List ℤ → List ℕ → List ℕ → List ℤ → List ℕ → Links
 linksBy ul uc um dl dc dm = record { up = pairsOf ul uc um; down = pairsOf dl dc dm }
 
--- no count is above m
+-- no count of messages is above m
 pub record Counts (m : ℕ) (l : Links) : Type 0 where
   pub up-few : (i : ℕ) → getD (l .up .messages) i 0 ≤ m
   pub down-few : (i : ℕ) → getD (l .down .messages) i 0 ≤ m

@@ -10,24 +10,24 @@ use Rattle.tree.specs.Every.{every}
 use Rattle.tree.specs.Parents.{parent}
 use Rattle.tree.specs.Ranges.{inRange}
 
--- how many nodes are on the near side, k of n below the child: they, or for a pair from parent to child the rest
+-- how many nodes are on the near side of a pair, where k of n are below the child: k, or for a pair from parent to child the rest
 abbrev pub nearSize : ℕ → Bool → ℕ → ℕ
 nearSize n false k = k
 nearSize n true k = n - k
 
--- numbers of pairs: at most m where there is a pair, and none where there is not
+-- a test of the numbers of pairs: at most m where there is a pair, and zero where there is not
 abbrev pub numbers : ℕ → ℕ → List ℕ → Bool
 numbers n m l = places n (λ i. leb (getD l i 0) m) (λ i. eqb (getD l i 0) 0)
 
--- caches: each in the range of the near side, k i nodes, and zero where there is no pair
+-- a test of the caches of pairs: each in the range of the near side, k i nodes, and zero where there is no pair
 abbrev pub caches : ℕ → (ℕ → ℕ) → List ℤ → Bool
 caches n k l = places n (λ i. inRange (k i) (getD l i (pos 0))) (λ i. inRange 0 (getD l i (pos 0)))
 
--- all entries of one direction; ks has the nodes at or below each node
+-- a test of all entries of one direction; ks has the nodes at or below each node
 unfoldable pub pairs : ℕ → ℕ → Bool → List ℕ → List ℕ → List ℤ → List ℕ → Bool
 pairs n twice down ks ls cs ms = (numbers n 2 ls && numbers n twice ms) && caches n (λ i. nearSize n down (getD ks i 0)) cs
 
--- all values of nodes that are not there
+-- a test of the values of nodes that are not there: all are zero
 unfoldable pub values : ℕ → List ℤ → Bool
 values n vs = every (from n (λ i. inRange 0 (getD vs i (pos 0)))) 256
 

@@ -1,12 +1,10 @@
 -- `push` meets its contract: a message that has a number is added where there is room.
-use mathlib.Core.Path.{_≡_, refl, sym, ap, _∙_}
+use mathlib.Core.Path.{_≡_, sym, ap, _∙_}
 use mathlib.Core.Bool.{true, false}
-use native.Mathlib.Nat.{suc-ne-zero}
 use Prim.Native.Nat.{ℕ}
 use borrow.Author.Needs.{needs}
 use Rattle.messages.specs.Records.{fits, coded, codedOf, toldCoded}
 use Rattle.messages.specs.declared.Message.{Message}
-use Rattle.messages.specs.declared.Coded.{Coded}
 use Rattle.messages.specs.declared.Coded.the-variants.{Number, Misfit}
 use Rattle.messages.proofs.Answers.{coded-exactly, uncoded-exactly}
 use Rattle.trace.proofs.Traced.{pushed-room, pushed-full, pushed-misfit}

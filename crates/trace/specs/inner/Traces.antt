@@ -13,7 +13,7 @@ use Rattle.messages.specs.declared.Recorded.the-variants.{Next, Full, Misfit}
 use Rattle.trace.specs.declared.Logged.{Logged}
 use Rattle.trace.specs.declared.Logged.the-variants as logging
 
--- room for 510 numbers, and how many of them count
+-- a trace: room for 510 numbers, and how many of them count
 pub record Trace : Type 0 where
   pub numbers : List ℕ
   pub len : ℕ
@@ -21,7 +21,7 @@ pub record Trace : Type 0 where
 abbrev pub trace : List ℕ → ℕ → Trace
 trace ns k = record { numbers = ns; len = k }
 
--- one message more; none where its value does not fit 40 bits, or the trace is full
+-- the trace with one message more; none is added where its value does not fit 40 bits, or the trace is full
 unfoldable pub pushed : Message → Trace → Trace
 pushed m t = cond (fits m && ltb (t .len) 510) (trace (set (t .numbers) (t .len) (coded m)) (t .len + 1)) t
 
@@ -38,20 +38,20 @@ messagesIn ns (suc k) = messagesIn ns k ++ (decoded (getD ns k 0) ∷ [])
 abbrev pub messagesOf : List ℕ → ℕ → List Message
 messagesOf ns len = messagesIn ns (min len 510)
 
--- what logging them answers: the place after the last record, where there is room for all
+-- what logging messages answers: the place after the last record, where there is room for all
 unfoldable pub loggedOf : ℕ → ℕ → List Message → Logged
 loggedOf n place ms = cond (roomForAll n place ms) (logging.Next (place + bitsOfAll ms)) logging.Full
 
--- the log with all records; as it was where there is no room for all
+-- the log with the records of all messages; as it was where there is no room for all
 unfoldable pub logAfterAll : List ℕ → ℕ → List Message → List ℕ
 logAfterAll log place ms = cond (roomForAll (length log) place ms) (logged log place ms) log
 
--- document 01's number and the next place: 9 where the place is past the usable log, or there are too few bits for all records
+-- document 01's number for what logging answers, and the next place: 9 where the place is past the usable log, or there are too few bits for all records
 abbrev pub toldLogged : Logged → ℕ × ℕ
 toldLogged (logging.Next place) = (0, place)
 toldLogged logging.Full = (9, 0)
 
--- ---- the same, message by message
+-- ---- logging message by message
 
 -- a log, and the place of the next record in it
 pub record Writing : Type 0 where
@@ -67,7 +67,7 @@ placed (Next next) place = next
 placed Full place = place
 placed Misfit place = place
 
--- one message written, and message by message
+-- a log after one message was written, and after messages were written one by one
 abbrev pub noted : Message → Writing → Writing
 noted m w = writing (logAfter (w .log) (w .place) m) (placed (recordedOf (length (w .log)) (w .place) m) (w .place))
 

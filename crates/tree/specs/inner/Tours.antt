@@ -9,11 +9,11 @@ use Rattle.tree.specs.Kept.{when, kept}
 use Rattle.tree.specs.Sides.{adjacent, other}
 use Rattle.tree.specs.Turns.{round}
 
--- at u, come from v, the walk goes on to the other neighbours w where `go w u`: what it says of each of them, in turn
+-- what a walk at u, come from v, says of each other neighbour w that it goes on to, where `go w u`, in turn
 abbrev pub onward : {M : Type 0} → List ℕ → ℕ → (ℕ → ℕ → Bool) → ℕ → ℕ → (ℕ → List M) → List M
 onward ps n go u v says = round n u (λ w. when (other ps u v w && go w u) (says w))
 
--- on going to u from v it says `before u v`, goes on from u, and says `after u v`; it counts down a falling number, and stops at 0
+-- what a walk says on going to u from v: `before u v`, then what it says on going on from u, then `after u v`; it counts down a falling number, and stops at 0
 unfoldable pub visit : {M : Type 0} → List ℕ → ℕ → (ℕ → ℕ → Bool) → (ℕ → ℕ → List M) → (ℕ → ℕ → List M) → ℕ → ℕ → ℕ → List M
 visit ps n go before after zero u v = []
 visit ps n go before after (suc k) u v = before u v ++ (onward ps n go u v (λ w. visit ps n go before after k w u) ++ after u v)

@@ -16,7 +16,7 @@ use Rattle.session.specs.Holding.{pairAt}
 use Rattle.mechanism.specs.Views.{View}
 use Rattle.mechanism.specs.Spreading.{addIf}
 
--- what is known where there is a lease, and nothing where there is none
+-- what is known by a cache: the cache where there is a lease, and nothing where there is none
 unfoldable pub knownBy : ℕ → ℤ → ℤ
 knownBy lease cache = cond (eqb lease 0) (pos 0) cache
 
@@ -45,7 +45,7 @@ pub record Cleared (n : ℕ) (l : List ℤ) : Type 0 where
   pub long : length l ≡ 256
   pub zeros : (u : ℕ) → u < n → getD l u (pos 0) ≡ pos 0
 
--- for u and its neighbour at place k stands what u knows of those after it
+-- for u and its neighbour at place k stands what u knows of its neighbours after that one
 pub record Passed (q : View) (x : ℕ) (up down : List ℤ) : Type 0 where
   pub laid : (u k : ℕ) → u < q .count → k < q .count → adjacent (q .parents) (turn (q .count) u k) u ≡ true
       → pairAt (pos 0) up down u (turn (q .count) u k) ≡ later q x u (q .count - suc k)

@@ -66,7 +66,7 @@ pub record Telling (q : View) (first next : List ℕ) (later-up later-down : Lis
 pub record Spread (q : View) (f u v : ℕ) (z : ℤ) (t t′ : Trace) : Type 0 where
   pub logs : t′ ≡ pushedAll (spread sum q f u v z) t
 
--- what w adds to a sum and to t
+-- what telling w adds to a sum and to t
 pub record Told (q : View) (f u v : ℕ) (z : ℤ) (w : ℕ) (y : ℤ) (t : Trace) (y′ : ℤ) (t′ : Trace) : Type 0 where
   pub sums : y′ ≡ addIf sum q (other (q .parents) u v w) y (known q w u)
   pub logs : t′ ≡ pushedAll (sends sum q (other (q .parents) u v w) (q .lease u w) (spread sum q f) u v z w) t

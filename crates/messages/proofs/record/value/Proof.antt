@@ -1,6 +1,5 @@
 -- `record::value` meets its contract: a field of 40 bits stands for a value.
 use mathlib.Core.Path.{ap, _∙_}
-use Prim.Native.Nat.{_<_, _^_}
 use borrow.Author.Needs.{needs}
 use Rattle.fields.proofs.ReadBack.{field-lt}
 use Rattle.twos.specs.Twos.{signed}
