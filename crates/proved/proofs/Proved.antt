@@ -41,7 +41,7 @@ use Rattle.tree.specs.Operation.{sum}
 use Rattle.tree.specs.Ranges.{inRange}
 use Rattle.tree.specs.Sides.{climb, below}
 use Rattle.tree.specs.Turns.{turn, joined}
-use Rattle.proved.specs.Proved.{Holding, runs, empty, replies, end, held, outcome, grown, path-list, star, path, path-in-one-call, cases, All-hold}
+use Rattle.proved.specs.Proved.{Holding, runs, empty, replies, end, held, outcome, grown, path-list, path-in-one-call, cases, All-hold}
 
 -- ---- the path's list in one call
 

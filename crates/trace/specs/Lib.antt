@@ -1,3 +1,3 @@
--- What a reader must believe of traces: messages as numbers, what a trace holds and how it is logged, and the promises.
+-- What is promised of traces; what a trace holds and how it is logged is inner.
 pub mod inner
 pub mod Promises

@@ -1,3 +1,3 @@
--- What no promise of the library needs to be believed: how a walk goes through a tree, and tests of places.
+-- What no demand rests on by its words: how a walk goes through a tree, which only laws speak of, and tests of places.
 pub mod Tours
 pub mod Places

@@ -1,2 +1,2 @@
--- What the functions of the walks hand each other: links, what a combine's walk asks for and leaves, what comes after each neighbour, and a write's walk.
+-- The walks: all of it is what their functions hand each other.
 pub mod inner
