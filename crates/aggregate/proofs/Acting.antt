@@ -12,51 +12,51 @@ use Rattle.session.specs.Holding.{Typed}
 use Rattle.session.specs.Soundness.{Sound}
 use Rattle.session.specs.declared.Session.{Session}
 use Rattle.mechanism.specs.Views.{view}
-use Rattle.mechanism.specs.Applying.{Links, applied, upRaised, downRaised, raised}
+use Rattle.mechanism.specs.Applying.{Links, applied, up_raised, down_raised, raised}
 use Rattle.requests.specs.Lists.{node_of, Small}
-use Rattle.mechanism.specs.Requests.{combines, writes, linksOf, afterCombine, afterWrite, says, after}
+use Rattle.mechanism.specs.Requests.{combines, writes, links_of, after_combine, after_write, says, after}
 use Rattle.mechanism.proofs.After.{wide}
-use Rattle.mechanism.proofs.Cells.{wide-applied}
-use Rattle.mechanism.proofs.Valued.{valued-sound, valued-typed}
-use Rattle.walk.proofs.Fitting.{sound-fit}
-use Rattle.walk.proofs.Starting.{sound-steady}
-use Rattle.aggregate.specs.Serving.{refusedOutcome, refused}
-use Rattle.aggregate.specs.inner.Afters.{pairsOf, Climbing}
-use Rattle.aggregate.specs.inner.Acts.{requestOf, servedAs, Servable, begun, walked, Walkable, upSettled, downSettled}
+use Rattle.mechanism.proofs.Cells.{wide_applied}
+use Rattle.mechanism.proofs.Valued.{valued_sound, valued_typed}
+use Rattle.walk.proofs.Fitting.{sound_fit}
+use Rattle.walk.proofs.Starting.{sound_steady}
+use Rattle.aggregate.specs.Serving.{refused_outcome, refused}
+use Rattle.aggregate.specs.inner.Afters.{pairs_of, Climbing}
+use Rattle.aggregate.specs.inner.Acts.{request_of, served_as, Servable, begun, walked, Walkable, up_settled, down_settled}
 use Rattle.aggregate.specs.declared.Outcome.{Outcome}
 use Rattle.aggregate.specs.declared.Served.{Served}
 use Rattle.aggregate.specs.declared.act.Act.{Act}
 use Rattle.aggregate.specs.declared.act.Act.TheVariants.{Combine, Write}
 
-pub node-of : (x : ℕ) (a : Act) → node_of (requestOf x a) ≡ x
-node-of x Combine = refl
-node-of x (Write z) = refl
+pub node_of_lem : (x : ℕ) (a : Act) → node_of (request_of x a) ≡ x
+node_of_lem x Combine = refl
+node_of_lem x (Write z) = refl
 
 -- ---- begun: the value is set, and the walk can be made
 
-abbrev pub begunOf : Session → ℕ → Act → Session
-begunOf s x a = record { tree = s.tree; values = begun a x s.values; up = s.up; down = s.down; accepted = s.accepted }
+abbrev pub begun_of : Session → ℕ → Act → Session
+begun_of s x a = record { tree = s.tree; values = begun a x s.values; up = s.up; down = s.down; accepted = s.accepted }
 
 module _ (s : Session) (x : ℕ) where
-  begun-typed : (a : Act) → Typed s → x < 256 → Small (requestOf x a) → Typed (begunOf s x a)
-  begun-typed Combine t h small = t
-  begun-typed (Write z) t h small = valued-typed s x z t h small
+  begun_typed : (a : Act) → Typed s → x < 256 → Small (request_of x a) → Typed (begun_of s x a)
+  begun_typed Combine t h small = t
+  begun_typed (Write z) t h small = valued_typed s x z t h small
 
-  begun-sound : (a : Act) → Sound 2 s → x < s.tree.count → Sound 2 (begunOf s x a)
-  begun-sound Combine i h = i
-  begun-sound (Write z) i h = valued-sound s x z i h
+  begun_sound : (a : Act) → Sound 2 s → x < s.tree.count → Sound 2 (begun_of s x a)
+  begun_sound Combine i h = i
+  begun_sound (Write z) i h = valued_sound s x z i h
 
-  pub walkable : (a : Act) {first next : List ℕ} → Servable s first next → x < s.tree.count → Small (requestOf x a) → Walkable (view (begunOf s x a)) first next x
+  pub walkable : (a : Act) {first next : List ℕ} → Servable s first next → x < s.tree.count → Small (request_of x a) → Walkable (view (begun_of s x a)) first next x
   walkable a v h small =
-      let t = begun-typed a v.typed (omega (arith, v.holds.tree-in-rule.few)) small in
-      let i = begun-sound a v.holds h in
-      record { inside = h; fit = sound-fit 2 (begunOf s x a) t i; steady = sound-steady 2 (begunOf s x a) t i; linked = v.linked }
+      let t = begun_typed a v.typed (omega (arith, v.holds.tree_in_rule.few)) small in
+      let i = begun_sound a v.holds h in
+      record { inside = h; fit = sound_fit 2 (begun_of s x a) t i; steady = sound_steady 2 (begun_of s x a) t i; linked = v.linked }
 
   -- what it says is what the request says
-  pub says-walked : (a : Act) → walked a (view (begunOf s x a)) x ≡ says sum s (requestOf x a)
+  pub says_walked : (a : Act) → walked a (view (begun_of s x a)) x ≡ says sum s (request_of x a)
   unfolding combines writes
-  says-walked Combine = refl
-  says-walked (Write z) = refl
+  says_walked Combine = refl
+  says_walked (Write z) = refl
 
 -- a value that was set is taken back
 pub restored : (a : Act) (x : ℕ) (vs : List ℤ) → set (begun a x vs) x (get_or vs x (pos 0)) ≡ vs
@@ -64,28 +64,28 @@ restored Combine x vs = set-get_or vs x (pos 0)
 restored (Write z) x vs = set-set vs x z (get_or vs x (pos 0)) ∙ set-get_or vs x (pos 0)
 
 -- a refused act answers as its request does
-pub refused-in-place : (s t : Session) (n : ℕ) (o : Outcome) {v : Served} → o ≡ refusedOutcome n → t ≡ s → refused n s ≡ v → servedAs o t ≡ v
-refused-in-place s t n o e f h = rw (e, f) h
+pub refused_in_place : (s t : Session) (n : ℕ) (o : Outcome) {v : Served} → o ≡ refused_outcome n → t ≡ s → refused n s ≡ v → served_as o t ≡ v
+refused_in_place s t n o e f h = rw (e, f) h
 
 -- ---- applied and settled: the session after
 
-module _ (s : Session) (x : ℕ) (ms : List Message) (l : Links) (is : l ≡ applied ms (linksOf s)) where
+module _ (s : Session) (x : ℕ) (ms : List Message) (l : Links) (is : l ≡ applied ms (links_of s)) where
   -- as many numbers as before
   pub climbing : Typed s → Sound 2 s → x < s.tree.count → Climbing s.tree.parents s.tree.count x l.up.lease l.down.lease
   climbing t i h =
-      let w = wide-applied ms (linksOf s) (wide t) in
+      let w = wide_applied ms (links_of s) (wide t) in
       record {
-        room = i.tree-in-rule.few;
-        grown = i.tree-in-rule.grown;
+        room = i.tree_in_rule.few;
+        grown = i.tree_in_rule.grown;
         inside = h;
-        up-long = rw is w.up-long.leases;
-        down-long = rw is w.down-long.leases;
+        up_long = rw is w.up_long.leases;
+        down_long = rw is w.down_long.leases;
       }
 
-  pub settled : (a : Act) {vs : List ℤ} {ul dl : List ℕ} → vs ≡ begun a x s.values → ms ≡ (says sum s (requestOf x a)).log
-      → ul ≡ upSettled a s.tree.parents s.tree.count x l.up.lease → dl ≡ downSettled a s.tree.parents s.tree.count x l.down.lease
-      → record { tree = s.tree; values = vs; up = pairsOf ul l.up.cache l.up.messages; down = pairsOf dl l.down.cache l.down.messages; accepted = s.accepted + 1 }
-      ≡ after sum 2 s (requestOf x a)
-  unfolding afterCombine afterWrite raised upRaised downRaised
+  pub settled : (a : Act) {vs : List ℤ} {ul dl : List ℕ} → vs ≡ begun a x s.values → ms ≡ (says sum s (request_of x a)).log
+      → ul ≡ up_settled a s.tree.parents s.tree.count x l.up.lease → dl ≡ down_settled a s.tree.parents s.tree.count x l.down.lease
+      → record { tree = s.tree; values = vs; up = pairs_of ul l.up.cache l.up.messages; down = pairs_of dl l.down.cache l.down.messages; accepted = s.accepted + 1 }
+      ≡ after sum 2 s (request_of x a)
+  unfolding after_combine after_write raised up_raised down_raised
   settled Combine d e f g = rw (d, f, g, is, e)
   settled (Write z) d e f g = rw (d, f, g, is, e)

@@ -3,13 +3,13 @@ use mathlib.Core.Path.{◌≡◌, refl}
 use Prim.Native.Nat.{ℕ, zero, suc, ◌-◌}
 use native.Mathlib.Omega.{arith}
 use lib.ListN.{replicate}
-use Rattle.rule.specs.Pair.{combine, write, next, numberAfter}
+use Rattle.rule.specs.Pair.{combine, write, next, number_after}
 
-pub after-combine : (k : ℕ) → numberAfter 2 k (replicate 1 combine) ≡ 2
-unfolding numberAfter next
-after-combine k = refl
+pub after_combine_lem : (k : ℕ) → number_after 2 k (replicate 1 combine) ≡ 2
+unfolding number_after next
+after_combine_lem k = refl
 
-pub after_write : (k : ℕ) → numberAfter 2 k (replicate 1 write) ≡ k - 1
-unfolding numberAfter next
-after_write zero = refl
-after_write (suc k) = omega arith
+pub after_write_lem : (k : ℕ) → number_after 2 k (replicate 1 write) ≡ k - 1
+unfolding number_after next
+after_write_lem zero = refl
+after_write_lem (suc k) = omega arith

@@ -8,11 +8,11 @@ use Rattle.aggregate.proofs.combine.Reads as combine
 use Rattle.aggregate.proofs.write.Reads as write
 use Rattle.aggregate.proofs.run.Reads as run
 
-pub combine-once : OneOutcome combine.Post (λ κ s. s.1.1.0.now)
-combine-once κ a x y s t p q = (p.0 ∙ sym q.0, p.1 ∙ sym q.1)
+pub combine_once : OneOutcome combine.Post (λ κ s. s.1.1.0.now)
+combine_once κ a x y s t p q = (p.0 ∙ sym q.0, p.1 ∙ sym q.1)
 
-pub write-once : OneOutcome write.Post (λ κ s. s.1.1.1.0.now)
-write-once κ a x y s t p q = (p.0 ∙ sym q.0, p.1 ∙ sym q.1)
+pub write_once : OneOutcome write.Post (λ κ s. s.1.1.1.0.now)
+write_once κ a x y s t p q = (p.0 ∙ sym q.0, p.1 ∙ sym q.1)
 
-pub run-once : OneOutcome {L = List ℤ × List ℕ} run.Post (λ κ s. (s.1.1.0.now, s.1.1.1.0.now))
-run-once κ a x y s t p q = (p.0 ∙ sym q.0, ap₂ (λ v w. (v, w)) (p.1 ∙ sym q.1) (p.2 ∙ sym q.2))
+pub run_once : OneOutcome {L = List ℤ × List ℕ} run.Post (λ κ s. (s.1.1.0.now, s.1.1.1.0.now))
+run_once κ a x y s t p q = (p.0 ∙ sym q.0, ap₂ (λ v w. (v, w)) (p.1 ∙ sym q.1) (p.2 ∙ sym q.2))

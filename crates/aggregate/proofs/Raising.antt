@@ -11,22 +11,22 @@ use lib.ListN.{get_or, set, length, length-set}
 use lib.Seq.{get_or-set_same, get_or-set_other}
 use borrow.Author.Tests.{lt-ltb, le-ltb, le-leb, lt-leb}
 use Rattle.tree.specs.Parents.{parent}
-use Rattle.tree.specs.Sides.{below, pointsTo}
-use Rattle.tree.proofs.Cases.{order, lt-or-le}
-use Rattle.mechanism.specs.Applying.{each, upRaised, downRaised}
+use Rattle.tree.specs.Sides.{below, points_to}
+use Rattle.tree.proofs.Cases.{order, lt_or_le}
+use Rattle.mechanism.specs.Applying.{each, up_raised, down_raised}
 use Rattle.aggregate.specs.inner.Afters.{Climbing}
-use Rattle.walk.proofs.Ways.{Ahead, ahead_none, on-way, off-way, ahead-on, ahead-off}
+use Rattle.walk.proofs.Ways.{Ahead, ahead_none, on_way, off_way, ahead_on, ahead_off}
 
 -- ---- one list of numbers
 
 -- a list that has at each place what g makes of l's entry
-each-is : (g : ℕ → ℕ → ℕ) (k : ℕ) (xs l : List ℕ) → length xs ≡ length l → ((i : ℕ) → get_or xs i 0 ≡ g (k + i) (get_or l i 0)) → xs ≡ each g k l
+each_is : (g : ℕ → ℕ → ℕ) (k : ℕ) (xs l : List ℕ) → length xs ≡ length l → ((i : ℕ) → get_or xs i 0 ≡ g (k + i) (get_or l i 0)) → xs ≡ each g k l
 unfolding each
-each-is g k [] [] e h = refl
-each-is g k [] (a ∷ l) e h = absurd (omega arith)
-each-is g k (x ∷ xs) [] e h = absurd (omega arith)
-each-is g k (x ∷ xs) (a ∷ l) e h =
-    ap₂ (λ (y : ℕ) (ys : List ℕ). y ∷ ys) (rw (add-zero k) at (h 0)) (each-is g (suc k) xs l (omega arith) (λ i. h (suc i) ∙ ap (λ j. g j (get_or l i 0)) (omega arith)))
+each_is g k [] [] e h = refl
+each_is g k [] (a ∷ l) e h = absurd (omega arith)
+each_is g k (x ∷ xs) [] e h = absurd (omega arith)
+each_is g k (x ∷ xs) (a ∷ l) e h =
+    ap₂ (λ (y : ℕ) (ys : List ℕ). y ∷ ys) (rw (add-zero k) at (h 0)) (each_is g (suc k) xs l (omega arith) (λ i. h (suc i) ∙ ap (λ j. g j (get_or l i 0)) (omega arith)))
 
 -- the entries from k on, and before n, are b where `points` says so
 pub record Raised (points : ℕ → Bool) (n b : ℕ) (l : List ℕ) (k : ℕ) (xs : List ℕ) : Type 0 where
@@ -34,19 +34,19 @@ pub record Raised (points : ℕ → Bool) (n b : ℕ) (l : List ℕ) (k : ℕ) (
   pub entry : (i : ℕ) → get_or xs i 0 ≡ cond ((leb k i && ltb i n) && points i) b (get_or l i 0)
 
 module _ (points : ℕ → Bool) (n b : ℕ) (l : List ℕ) where
-  raised-none : Raised points n b l n l
-  raised-none = record { long = refl; entry = λ i. lt-or-le i n (λ h. rw (lt-leb n i h)) (λ h. rw (le-ltb i n h, and-false (leb n i))) }
+  raised_none : Raised points n b l n l
+  raised_none = record { long = refl; entry = λ i. lt_or_le i n (λ h. rw (lt-leb n i h)) (λ h. rw (le-ltb i n h, and-false (leb n i))) }
 
   module _ (k : ℕ) (xs : List ℕ) (r : Raised points n b l (suc k) xs) where
     -- the others are as they were
     others : (i : ℕ) → i ≢ k → get_or xs i 0 ≡ cond ((leb k i && ltb i n) && points i) b (get_or l i 0)
     others i d =
-        lt-or-le i k
+        lt_or_le i k
         (λ h. r.entry i ∙ rw (lt-leb (suc k) i (omega arith), lt-leb k i h))
         (λ h. r.entry i ∙ rw (le-leb (suc k) i (omega arith), le-leb k i h))
 
-    raised-one : points k ≡ true → k < n → k < length l → Raised points n b l k (set xs k b)
-    raised-one p m h =
+    raised_one : points k ≡ true → k < n → k < length l → Raised points n b l k (set xs k b)
+    raised_one p m h =
         record {
           long = length-set xs k b ∙ r.long;
           entry = λ i. order i k
@@ -55,8 +55,8 @@ module _ (points : ℕ → Bool) (n b : ℕ) (l : List ℕ) where
               (λ o. get_or-set_other xs k i b 0 (λ e. omega arith) ∙ others i (λ e. omega arith));
         }
 
-    raised-not : points k ≡ false → Raised points n b l k xs
-    raised-not p =
+    raised_not : points k ≡ false → Raised points n b l k xs
+    raised_not p =
         record {
           long = r.long;
           entry = λ i. order i k
@@ -76,56 +76,56 @@ pub record Climbed (ps : List ℕ) (n x : ℕ) (up₀ down₀ up down : List ℕ
   pub low : Raised (λ j. below ps j x) n 2 down₀ i down
 
 module _ {ps : List ℕ} {n x : ℕ} {up₀ down₀ : List ℕ} (o : Climbing ps n x up₀ down₀) where
-  pub climbed-none : Climbed ps n x up₀ down₀ up₀ down₀ x n
-  climbed-none = record { some = omega (arith, o.inside); few = omega arith; ahead = ahead_none o.inside; high = raised-none _ n 2 up₀; low = raised-none _ n 2 down₀ }
+  pub climbed_none : Climbed ps n x up₀ down₀ up₀ down₀ x n
+  climbed_none = record { some = omega (arith, o.inside); few = omega arith; ahead = ahead_none o.inside; high = raised_none _ n 2 up₀; low = raised_none _ n 2 down₀ }
 
   module _ {up down : List ℕ} {at k i : ℕ} (before : Climbed ps n x up₀ down₀ up down at k) (next : k ≡ suc i) (some : 0 < i) where
     c : Climbed ps n x up₀ down₀ up down at (suc i)
     c = rw next at before
 
     -- x is below the node that the way is at
-    pub climbed-on : i ≡ at → Climbed ps n x up₀ down₀ up (set down i 2) (parent ps i) i
-    climbed-on e =
+    pub climbed_on : i ≡ at → Climbed ps n x up₀ down₀ up (set down i 2) (parent ps i) i
+    climbed_on e =
         let inside : i < n = omega (arith, c.few) in
-        let b = on-way o.grown inside c.ahead e in
+        let b = on_way o.grown inside c.ahead e in
         record {
           some = some;
           few = omega (arith, c.few);
-          ahead = ahead-on o.grown inside c.ahead some e;
-          high = raised-not _ n 2 up₀ i up c.high (ap not b);
-          low = raised-one _ n 2 down₀ i down c.low b (omega (arith, c.few)) (omega (arith, c.few, o.room, o.down-long));
+          ahead = ahead_on o.grown inside c.ahead some e;
+          high = raised_not _ n 2 up₀ i up c.high (ap not b);
+          low = raised_one _ n 2 down₀ i down c.low b (omega (arith, c.few)) (omega (arith, c.few, o.room, o.down_long));
         }
 
     -- and below no other
-    pub climbed-off : i ≢ at → Climbed ps n x up₀ down₀ (set up i 2) down at i
-    climbed-off d =
+    pub climbed_off : i ≢ at → Climbed ps n x up₀ down₀ (set up i 2) down at i
+    climbed_off d =
         let inside : i < n = omega (arith, c.few) in
-        let b = off-way o.grown inside c.ahead d in
+        let b = off_way o.grown inside c.ahead d in
         record {
           some = some;
           few = omega (arith, c.few);
-          ahead = ahead-off o.grown inside c.ahead d;
-          high = raised-one _ n 2 up₀ i up c.high (ap not b) (omega (arith, c.few)) (omega (arith, c.few, o.room, o.up-long));
-          low = raised-not _ n 2 down₀ i down c.low b;
+          ahead = ahead_off o.grown inside c.ahead d;
+          high = raised_one _ n 2 up₀ i up c.high (ap not b) (omega (arith, c.few)) (omega (arith, c.few, o.room, o.up_long));
+          low = raised_not _ n 2 down₀ i down c.low b;
         }
 
   -- the tests of an entry, as sides
-  up-points : (i b a : ℕ) → cond ((ltb 0 i && ltb i n) && not (below ps i x)) b a ≡ cond ((ltb 0 i && ltb i n) && pointsTo ps i (parent ps i) x) b a
-  up-points i b a = lt-or-le i n
-      (λ h. lt-or-le 0 i (λ z. rw (le-ltb i (parent ps i) (omega (arith, o.grown i z h)))) (λ z. rw (le-ltb 0 i z)))
+  up_points : (i b a : ℕ) → cond ((ltb 0 i && ltb i n) && not (below ps i x)) b a ≡ cond ((ltb 0 i && ltb i n) && points_to ps i (parent ps i) x) b a
+  up_points i b a = lt_or_le i n
+      (λ h. lt_or_le 0 i (λ z. rw (le-ltb i (parent ps i) (omega (arith, o.grown i z h)))) (λ z. rw (le-ltb 0 i z)))
       (λ h. rw (le-ltb i n h, and-false (ltb 0 i)))
 
-  down-points : (i b a : ℕ) → cond ((ltb 0 i && ltb i n) && below ps i x) b a ≡ cond ((ltb 0 i && ltb i n) && pointsTo ps (parent ps i) i x) b a
-  down-points i b a = lt-or-le i n
-      (λ h. lt-or-le 0 i (λ z. rw (lt-ltb (parent ps i) i (o.grown i z h))) (λ z. rw (le-ltb 0 i z)))
+  down_points : (i b a : ℕ) → cond ((ltb 0 i && ltb i n) && below ps i x) b a ≡ cond ((ltb 0 i && ltb i n) && points_to ps (parent ps i) i x) b a
+  down_points i b a = lt_or_le i n
+      (λ h. lt_or_le 0 i (λ z. rw (lt-ltb (parent ps i) i (o.grown i z h))) (λ z. rw (le-ltb 0 i z)))
       (λ h. rw (le-ltb i n h, and-false (ltb 0 i)))
 
-  pub climbed-all : {up down : List ℕ} {at i : ℕ} → Climbed ps n x up₀ down₀ up down at i → i ≤ 1 → (up ≡ upRaised ps n 2 x up₀) × (down ≡ downRaised ps n 2 x down₀)
-  unfolding upRaised downRaised
-  climbed-all {up} {down} {at} {i} c h =
+  pub climbed_all : {up down : List ℕ} {at i : ℕ} → Climbed ps n x up₀ down₀ up down at i → i ≤ 1 → (up ≡ up_raised ps n 2 x up₀) × (down ≡ down_raised ps n 2 x down₀)
+  unfolding up_raised down_raised
+  climbed_all {up} {down} {at} {i} c h =
       let e : i ≡ 1 = omega (arith, c.some) in
       let high = rw e at c.high in
       let low = rw e at c.low in (
-        each-is _ 0 up up₀ high.long (λ j. rw (zero-add j) (high.entry j ∙ up-points j 2 (get_or up₀ j 0))),
-        each-is _ 0 down down₀ low.long (λ j. rw (zero-add j) (low.entry j ∙ down-points j 2 (get_or down₀ j 0))),
+        each_is _ 0 up up₀ high.long (λ j. rw (zero-add j) (high.entry j ∙ up_points j 2 (get_or up₀ j 0))),
+        each_is _ 0 down down₀ low.long (λ j. rw (zero-add j) (low.entry j ∙ down_points j 2 (get_or down₀ j 0))),
       )

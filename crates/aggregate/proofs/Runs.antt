@@ -8,22 +8,22 @@ use lib.Dec.{eqb}
 use lib.IntN.{ℤ}
 use lib.ListN.{length, take, length-set}
 use borrow.Author.Tests.{ne_eqb}
-use Rattle.requests.specs.Lists.{Sized, AllSized, combinesIn}
+use Rattle.requests.specs.Lists.{Sized, AllSized, combines_in}
 use Rattle.requests.specs.declared.Request.{Request}
 use Rattle.requests.specs.declared.Request.TheVariants.{Combine, Write}
-use Rattle.aggregate.specs.Running.{Running, in_turn, stored, done, Ended, runs, Serves, all_done, stopped, accepted, spokenIn}
+use Rattle.aggregate.specs.Running.{Running, in_turn, stored, done, Ended, runs, Serves, all_done, stopped, accepted, spoken_in}
 
 -- there are as many answer places as before
-pub stored-length : (r : Request) (z : ℤ) (k : ℕ) (answers : List ℤ) → length (stored r z k answers) ≡ length answers
-stored-length (Combine x) z k answers = length-set answers k z
-stored-length (Write x v) z k answers = refl
+pub stored_length : (r : Request) (z : ℤ) (k : ℕ) (answers : List ℤ) → length (stored r z k answers) ≡ length answers
+stored_length (Combine x) z k answers = length-set answers k z
+stored_length (Write x v) z k answers = refl
 
 -- what comes of the first request's refusal
 abbrev from : ℕ → Ended → Running → Ended
 from n e o = cond (eqb n 0) e (record { refusal = n; reached = o })
 
-refused-there : (n : ℕ) (e : Ended) (o : Running) → from (suc n) e o ≡ record { refusal = suc n; reached = o }
-refused-there n e o = rw (ne_eqb (suc n) 0 (omega arith))
+refused_there : (n : ℕ) (e : Ended) (o : Running) → from (suc n) e o ≡ record { refusal = suc n; reached = o }
+refused_there n e o = rw (ne_eqb (suc n) 0 (omega arith))
 
 -- a relation that a request which is accepted keeps holds between the first turn and the last
 module _ (P : Running → Running → Type 0) (none : (o : Running) → P o o) (more : (r : Request) (o o' : Running) → Sized r → (in_turn r o).outcome.refusal ≡ 0 → P (done r o) o' → P o o') where
@@ -34,7 +34,7 @@ module _ (P : Running → Running → Type 0) (none : (o : Running) → P o o) (
     where
       go : P (done r o) (runs rs (done r o)).reached → (n : ℕ) → (in_turn r o).outcome.refusal ≡ n → P o (from n (runs rs (done r o)) o).reached
       go rest zero e = more r o (runs rs (done r o)).reached sized.0 e rest
-      go rest (suc n) e = rw (refused-there n (runs rs (done r o)) o) (none o)
+      go rest (suc n) e = rw (refused_there n (runs rs (done r o)) o) (none o)
 
 pub serves : (rs : List Request) (o : Running) → Serves (runs rs o).refusal (runs rs o).reached rs o
 unfolding runs
@@ -43,7 +43,7 @@ serves (r ∷ rs) o = go (serves rs (done r o)) (in_turn r o).outcome.refusal re
   where
     go : Serves (runs rs (done r o)).refusal (runs rs (done r o)).reached rs (done r o) → (n : ℕ) → (in_turn r o).outcome.refusal ≡ n → Serves (from n (runs rs (done r o)) o).refusal (from n (runs rs (done r o)) o).reached (r ∷ rs) o
     go rest zero e = accepted r rs o e rest
-    go rest (suc n) e = rw (refused-there n (runs rs (done r o)) o) (stopped r rs (omega arith) e)
+    go rest (suc n) e = rw (refused_there n (runs rs (done r o)) o) (stopped r rs (omega arith) e)
 
 -- how far requests come: k of them are done, which would have been accepted alone and have said as much
 pub record Reach (rs : List Request) (o : Running) (n : ℕ) (o' : Running) : Type 0 where
@@ -51,12 +51,12 @@ pub record Reach (rs : List Request) (o : Running) (n : ℕ) (o' : Running) : Ty
   pub counted : o'.totals.requests ≡ o.totals.requests + k
   pub within : k ≤ length rs
   pub alone : runs (take k rs) o ≡ record { refusal = 0; reached = o' }
-  pub spoken : spokenIn (take k rs) o ≡ spokenIn rs o
-  pub all : n ≡ 0 → (k ≡ length rs) × (o'.totals.answers ≡ o.totals.answers + combinesIn rs)
+  pub spoken : spoken_in (take k rs) o ≡ spoken_in rs o
+  pub all : n ≡ 0 → (k ≡ length rs) × (o'.totals.answers ≡ o.totals.answers + combines_in rs)
   pub short : 0 < n → k < length rs
 
 pub reach : (rs : List Request) (o : Running) → Reach rs o (runs rs o).refusal (runs rs o).reached
-unfolding runs combinesIn done spokenIn
+unfolding runs combines_in done spoken_in
 reach [] o = record { k = 0; counted = omega arith; within = omega arith; alone = refl; spoken = refl; all = λ e. (refl, omega arith); short = λ h. absurd (omega arith) }
 reach (r ∷ rs) o = go (reach rs (done r o)) (in_turn r o).outcome.refusal refl
   where
@@ -72,18 +72,18 @@ reach (r ∷ rs) o = go (reach rs (done r o)) (in_turn r o).outcome.refusal refl
           short = λ h. omega (arith, l.short h);
         }
     go l (suc n) e =
-        rw (refused-there n (runs rs (done r o)) o)
+        rw (refused_there n (runs rs (done r o)) o)
         (record { k = 0; counted = omega arith; within = omega arith; alone = refl; spoken = rw (e, ne_eqb (suc n) 0 (omega arith)); all = λ z. absurd (omega arith); short = λ h. omega arith })
 
 -- the first of sized requests are sized
-pub sized-first : (k : ℕ) (rs : List Request) → AllSized rs → AllSized (take k rs)
-sized-first zero rs sized = tt
-sized-first (suc k) [] sized = tt
-sized-first (suc k) (r ∷ rs) sized = (sized.0, sized-first k rs sized.1)
+pub sized_first : (k : ℕ) (rs : List Request) → AllSized rs → AllSized (take k rs)
+sized_first zero rs sized = tt
+sized_first (suc k) [] sized = tt
+sized_first (suc k) (r ∷ rs) sized = (sized.0, sized_first k rs sized.1)
 
 -- as many combines among the first as among all, at most
-pub combines-first : (k : ℕ) (rs : List Request) → combinesIn (take k rs) ≤ combinesIn rs
-unfolding combinesIn
-combines-first zero rs = omega arith
-combines-first (suc k) [] = omega arith
-combines-first (suc k) (r ∷ rs) = omega (arith, combines-first k rs)
+pub combines_first : (k : ℕ) (rs : List Request) → combines_in (take k rs) ≤ combines_in rs
+unfolding combines_in
+combines_first zero rs = omega arith
+combines_first (suc k) [] = omega arith
+combines_first (suc k) (r ∷ rs) = omega (arith, combines_first k rs)

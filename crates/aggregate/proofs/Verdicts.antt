@@ -7,55 +7,55 @@ use Prim.Native.Nat.{ℕ, zero, suc, ◌+◌, ◌<◌, ◌≤◌}
 use native.Mathlib.Omega.{arith}
 use lib.ListN.{length}
 use borrow.Author.Tests.{ne_eqb}
-use Rattle.fields.specs.Usable.{usableBits}
+use Rattle.fields.specs.Usable.{usable_bits}
 use Rattle.tree.specs.Operation.{sum}
-use Rattle.tree.proofs.Cases.{lt-or-le}
-use Rattle.messages.specs.Writing.{logged, bitsOfAll}
+use Rattle.tree.proofs.Cases.{lt_or_le}
+use Rattle.messages.specs.Writing.{logged, bits_of_all}
 use Rattle.requests.specs.declared.Request.{Request}
 use Rattle.session.specs.Soundness.{limit, Sound}
 use Rattle.session.specs.declared.Session.{Session}
-use Rattle.session.proofs.Soundly.{sound-exactly}
+use Rattle.session.proofs.Soundly.{sound_exactly}
 use Rattle.requests.specs.Lists.{node_of}
 use Rattle.mechanism.specs.Requests.{says, after}
 use Rattle.mechanism.specs.Refusals.{Ruled, no_room, misfit}
 use Rattle.mechanism.specs.Refusals as refusals
-use Rattle.mechanism.proofs.Refusing.{request-ruled-exactly}
-use Rattle.mechanism.proofs.Few.{few-messages}
-use Rattle.mechanism.proofs.Fits.{messages-fit, never-misfit, sum-ranging}
-use Rattle.aggregate.specs.Serving.{refused, accepted, served, refusal, servedOf, logOf}
-use Rattle.aggregate.specs.Promises.{Refused-exactly, Refused-kept, Never-eleven, Room-enough}
+use Rattle.mechanism.proofs.Refusing.{request_ruled_exactly}
+use Rattle.mechanism.proofs.Few.{few_messages}
+use Rattle.mechanism.proofs.Fits.{messages_fit, never_misfit, sum_ranging}
+use Rattle.aggregate.specs.Serving.{refused, accepted, served, refusal, served_of, log_of}
+use Rattle.aggregate.specs.Promises.{RefusedExactly, RefusedKept, NeverEleven, RoomEnough}
 
 -- what is known of an accepted request
 pub record Accepted (s : Session) (r : Request) (len place : ℕ) : Type 0 where
   pub holds : Sound 2 s
   pub inside : node_of r < s.tree.count
   pub free : s.accepted < limit
-  pub room : place + bitsOfAll (says sum s r).log ≤ usableBits len
+  pub room : place + bits_of_all (says sum s r).log ≤ usable_bits len
 
 module _ (s : Session) (r : Request) (len place : ℕ) where
   ruling : (n : ℕ) → refusal s r len place ≡ n → Ruled 2 s (node_of r) len place (says sum s r).log n
-  ruling n = (request-ruled-exactly 2 s (node_of r) len place (says sum s r).log n).0
+  ruling n = (request_ruled_exactly 2 s (node_of r) len place (says sum s r).log n).0
 
-  pub number_is : (servedOf s r len place).outcome.refusal ≡ refusal s r len place
-  unfolding servedOf
+  pub number_is : (served_of s r len place).outcome.refusal ≡ refusal s r len place
+  unfolding served_of
   number_is = go (refusal s r len place)
     where
       go : (n : ℕ) → (served n (accepted (says sum s r).sum (says sum s r).log place (after sum 2 s r)) s).outcome.refusal ≡ n
       go zero = refl
       go (suc n) = refl
 
-  pub accepted-by : (servedOf s r len place).outcome.refusal ≡ 0 → Accepted s r len place
-  accepted-by e = go (ruling 0 (sym number_is ∙ e))
+  pub accepted_by : (served_of s r len place).outcome.refusal ≡ 0 → Accepted s r len place
+  accepted_by e = go (ruling 0 (sym number_is ∙ e))
     where
       go : Ruled 2 s (node_of r) len place (says sum s r).log 0 → Accepted s r len place
-      go (refusals.accepted a h k l f) = record { holds = (sound-exactly 2 s).0 a; inside = h; free = k; room = l }
+      go (refusals.accepted a h k l f) = record { holds = (sound_exactly 2 s).0 a; inside = h; free = k; room = l }
 
-  pub answers : (servedOf s r len place).outcome.refusal ≡ 0 → servedOf s r len place ≡ accepted (says sum s r).sum (says sum s r).log place (after sum 2 s r)
-  unfolding servedOf
+  pub answers : (served_of s r len place).outcome.refusal ≡ 0 → served_of s r len place ≡ accepted (says sum s r).sum (says sum s r).log place (after sum 2 s r)
+  unfolding served_of
   answers e = ap (λ (n : ℕ). served n (accepted (says sum s r).sum (says sum s r).log place (after sum 2 s r)) s) (sym number_is ∙ e)
 
-  pub refuses : 0 < (servedOf s r len place).outcome.refusal → servedOf s r len place ≡ refused (servedOf s r len place).outcome.refusal s
-  unfolding servedOf
+  pub refuses : 0 < (served_of s r len place).outcome.refusal → served_of s r len place ≡ refused (served_of s r len place).outcome.refusal s
+  unfolding served_of
   refuses h = go (refusal s r len place) h
     where
       go : (n : ℕ) → 0 < (served n (accepted (says sum s r).sum (says sum s r).log place (after sum 2 s r)) s).outcome.refusal
@@ -64,35 +64,35 @@ module _ (s : Session) (r : Request) (len place : ℕ) where
       go (suc n) h = refl
 
 module _ (s : Session) (r : Request) (log : List ℕ) (place : ℕ) where
-  pub logs : (servedOf s r (length log) place).outcome.refusal ≡ 0 → logOf s r log place ≡ logged log place (says sum s r).log
-  unfolding logOf
+  pub logs : (served_of s r (length log) place).outcome.refusal ≡ 0 → log_of s r log place ≡ logged log place (says sum s r).log
+  unfolding log_of
   logs e = rw (sym (number_is s r (length log) place) ∙ e)
 
-  pub logs-nothing : 0 < (servedOf s r (length log) place).outcome.refusal → logOf s r log place ≡ log
-  unfolding logOf
-  logs-nothing h = rw (ne_eqb (refusal s r (length log) place) 0 (omega (arith, number_is s r (length log) place)))
+  pub logs_nothing : 0 < (served_of s r (length log) place).outcome.refusal → log_of s r log place ≡ log
+  unfolding log_of
+  logs_nothing h = rw (ne_eqb (refusal s r (length log) place) 0 (omega (arith, number_is s r (length log) place)))
 
 -- a request is accepted or refused
-pub verdict : {X : Type 0} (s : Session) (r : Request) (len place : ℕ) → ((servedOf s r len place).outcome.refusal ≡ 0 → X) → (0 < (servedOf s r len place).outcome.refusal → X) → X
-verdict s r len place taken left = lt-or-le 0 (servedOf s r len place).outcome.refusal left (λ h. taken (omega arith))
+pub verdict : {X : Type 0} (s : Session) (r : Request) (len place : ℕ) → ((served_of s r len place).outcome.refusal ≡ 0 → X) → (0 < (served_of s r len place).outcome.refusal → X) → X
+verdict s r len place taken left = lt_or_le 0 (served_of s r len place).outcome.refusal left (λ h. taken (omega arith))
 
-pub refused-exactly : Refused-exactly
-refused-exactly s r len place n =
-    let j = request-ruled-exactly 2 s (node_of r) len place (says sum s r).log n in
+pub refused_exactly : RefusedExactly
+refused_exactly s r len place n =
+    let j = request_ruled_exactly 2 s (node_of r) len place (says sum s r).log n in
     (λ e. j.0 (sym (number_is s r len place) ∙ e), λ e. number_is s r len place ∙ j.1 e)
 
-pub refused-kept : Refused-kept
-refused-kept s r log place h = (refuses s r (length log) place h, logs-nothing s r log place h)
+pub refused_kept : RefusedKept
+refused_kept s r log place h = (refuses s r (length log) place h, logs_nothing s r log place h)
 
-pub never-eleven : Never-eleven
-never-eleven s r len place typed small e = go (ruling s r len place 11 (sym (number_is s r len place) ∙ e))
+pub never_eleven : NeverEleven
+never_eleven s r len place typed small e = go (ruling s r len place 11 (sym (number_is s r len place) ∙ e))
   where
     go : Ruled 2 s (node_of r) len place (says sum s r).log 11 → ⊥
-    go (misfit a h k l f) = true≢false (sym (never-misfit (says sum s r).log (messages-fit sum 2 sum-ranging s typed ((sound-exactly 2 s).0 a) r small h)) ∙ f)
+    go (misfit a h k l f) = true≢false (sym (never_misfit (says sum s r).log (messages_fit sum 2 sum_ranging s typed ((sound_exactly 2 s).0 a) r small h)) ∙ f)
 
-pub room-enough : Room-enough
-room-enough s r len place enough e = go (ruling s r len place 9 (sym (number_is s r len place) ∙ e))
+pub room_enough : RoomEnough
+room_enough s r len place enough e = go (ruling s r len place 9 (sym (number_is s r len place) ∙ e))
   where
     go : Ruled 2 s (node_of r) len place (says sum s r).log 9 → ⊥
     go (no_room a h k (inl l)) = omega (arith, enough, l)
-    go (no_room a h k (inr l)) = omega (arith, enough, l, (few-messages sum 2 s ((sound-exactly 2 s).0 a) r h).1)
+    go (no_room a h k (inr l)) = omega (arith, enough, l, (few_messages sum 2 s ((sound_exactly 2 s).0 a) r h).1)

@@ -27,7 +27,7 @@ pub fn node_of(request: Request) -> usize
 }
 
 pub fn act_of(request: Request) -> Act
-    ensures { spec.requestOf (node_of request) result ≡ request }
+    ensures { spec.request_of (node_of request) result ≡ request }
 {
     match request {
         Request::Combine(_) => Act::Combine,
@@ -38,7 +38,7 @@ pub fn act_of(request: Request) -> Act
 // A write sets its value before its walk.
 pub fn begin(act: Act, x: usize, values: &mut [i32; 256])
     requires { (x < 256) × (length values.old ≡ 256) }
-    ensures { (values.new ≡ spec.begun act x values.old) × Small (spec.requestOf x act) }
+    ensures { (values.new ≡ spec.begun act x values.old) × Small (spec.request_of x act) }
 {
     match act {
         Act::Combine => {}
@@ -96,7 +96,7 @@ pub fn settle(
     down: &mut [u8; 256],
 )
     requires { Climbing parents.now count x up.old down.old }
-    ensures { (up.new ≡ spec.upSettled act parents.now count x up.old) × (down.new ≡ spec.downSettled act parents.now count x down.old) }
+    ensures { (up.new ≡ spec.up_settled act parents.now count x up.old) × (down.new ≡ spec.down_settled act parents.now count x down.old) }
 {
     match act {
         Act::Combine => raise::raise(count, parents, x, up, down),

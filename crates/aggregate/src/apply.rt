@@ -2,8 +2,8 @@
 // cache, and an update lowers the number.
 ghost use Rattle.std.specs.Prelude.{◌≡◌, ◌<◌, ◌≤◌};
 ghost use Rattle.mechanism.specs.Applying as spec;
-ghost use Rattle.trace.specs.inner.Traces.{messagesOf};
-ghost use Rattle.aggregate.specs.inner.Afters.{pairsOf, linksBy, Counts};
+ghost use Rattle.trace.specs.inner.Traces.{messages_of};
+ghost use Rattle.aggregate.specs.inner.Afters.{pairs_of, links_by, Counts};
 
 use crate::reads;
 use messages::Message;
@@ -20,8 +20,8 @@ pub fn apply(
     down_cache: &mut [i64; 256],
     down_messages: &mut [u32; 256],
 )
-    requires { (len ≤ 510) × Counts 2097152 (linksBy up_lease.old up_cache.old up_messages.old down_lease.old down_cache.old down_messages.old) }
-    ensures { linksBy up_lease.new up_cache.new up_messages.new down_lease.new down_cache.new down_messages.new
+    requires { (len ≤ 510) × Counts 2097152 (links_by up_lease.old up_cache.old up_messages.old down_lease.old down_cache.old down_messages.old) }
+    ensures { links_by up_lease.new up_cache.new up_messages.new down_lease.new down_cache.new down_messages.new
         ≡ spec.applied (messagesOf trace.now len) (linksBy up_lease.old up_cache.old up_messages.old down_lease.old down_cache.old down_messages.old) }
 {
     let mut k: usize = 0;
@@ -46,8 +46,8 @@ fn hit(
     i: usize,
     message: Message,
 )
-    requires { (i < 256) × ((spec.readAt (pairsOf lease.old cache.old messages.old) i).sent < 4294967295) }
-    ensures { pairsOf lease.new cache.new messages.new ≡ spec.storeAt (pairsOf lease.old cache.old messages.old) i (spec.hit message (spec.readAt (pairsOf lease.old cache.old messages.old) i)) }
+    requires { (i < 256) × ((spec.read_at (pairs_of lease.old cache.old messages.old) i).sent < 4294967295) }
+    ensures { pairs_of lease.new cache.new messages.new ≡ spec.store_at (pairs_of lease.old cache.old messages.old) i (spec.hit message (spec.read_at (pairs_of lease.old cache.old messages.old) i)) }
 {
     messages[i] = messages[i] + 1;
     match message {
@@ -65,7 +65,7 @@ fn hit(
 
 // The pair that owns a message: its near end, and its far end.
 fn from(message: Message) -> usize
-    ensures { (result ≡ spec.fromOf message) × (result < 256) }
+    ensures { (result ≡ spec.from_of message) × (result < 256) }
 {
     match message {
         Message::Probe(_, b) => reads::node(b),
@@ -76,7 +76,7 @@ fn from(message: Message) -> usize
 }
 
 fn to(message: Message) -> usize
-    ensures { (result ≡ spec.toOf message) × (result < 256) }
+    ensures { (result ≡ spec.to_of message) × (result < 256) }
 {
     match message {
         Message::Probe(a, _) => reads::node(a),

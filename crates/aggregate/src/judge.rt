@@ -1,14 +1,14 @@
 // What a refused request answers.
 ghost use Rattle.std.specs.Prelude.{◌≡◌};
-ghost use Rattle.aggregate.specs.Serving.{refusedOutcome};
-ghost use Rattle.aggregate.specs.inner.Acts.{earlyRefusal};
+ghost use Rattle.aggregate.specs.Serving.{refused_outcome};
+ghost use Rattle.aggregate.specs.inner.Acts.{early_refusal};
 
 use crate::Outcome;
 use session::Session;
 
 // The refusal of a request before its walk, 0 for none: 9 is known after the walk.
 pub fn early_refusal(count: u16, accepted: u32, x: usize) -> u8
-    ensures { result ≡ earlyRefusal count accepted x }
+    ensures { result ≡ early_refusal count accepted x }
 {
     if count as usize <= x {
         return 7;
@@ -21,7 +21,7 @@ pub fn early_refusal(count: u16, accepted: u32, x: usize) -> u8
 
 // What a refused request answers: the number of the refusal and zeros.
 pub fn refused(refusal: u8) -> Outcome
-    ensures { result ≡ refusedOutcome refusal }
+    ensures { result ≡ refused_outcome refusal }
 {
     Outcome {
         refusal,

@@ -18,8 +18,8 @@ mod turns; // the requests of a list, each in its turn
 
 ghost use Rattle.std.specs.Prelude.{◌≡◌, length};
 ghost use Rattle.requests.specs.declared.Request.TheVariants.{Combine, Write};
-ghost use Rattle.aggregate.specs.Serving.{servedOf, logOf};
-ghost use Rattle.aggregate.specs.Running.{ranOf, answersOf, runLogOf};
+ghost use Rattle.aggregate.specs.Serving.{served_of, log_of};
+ghost use Rattle.aggregate.specs.Running.{ran_of, answers_of, run_log_of};
 
 use act::Act;
 use session::Session;
@@ -69,14 +69,14 @@ pub struct Ran {
 // the tree, 8 1,048,576 requests are already accepted, 9 the place is past the usable log or there
 // are too few bits for all records.
 pub fn combine(session: Session, x: usize, log: &mut [u8], place: usize) -> Served
-    ensures { (result ≡ servedOf session (Combine x) (length log.old) place) × (log.new ≡ logOf session (Combine x) log.old place) }
+    ensures { (result ≡ served_of session (Combine x) (length log.old) place) × (log.new ≡ log_of session (Combine x) log.old place) }
 {
     serve::whole(session, x, Act::Combine, log, place)
 }
 
 // A write of a value at node x, logged from place on. Refusals: as for a combine.
 pub fn write(session: Session, x: usize, value: i32, log: &mut [u8], place: usize) -> Served
-    ensures { (result ≡ servedOf session (Write x value) (length log.old) place) × (log.new ≡ logOf session (Write x value) log.old place) }
+    ensures { (result ≡ served_of session (Write x value) (length log.old) place) × (log.new ≡ log_of session (Write x value) log.old place) }
 {
     serve::whole(session, x, Act::Write(value), log, place)
 }
@@ -86,7 +86,7 @@ pub fn write(session: Session, x: usize, value: i32, log: &mut [u8], place: usiz
 // refuse it. Refusals of the whole list: those of `requests::judge`, 10 fewer answer places than
 // combines, 6 the session is unsound. That the session is sound is tested once.
 pub fn run(session: Session, list: &[u8], answers: &mut [i64], log: &mut [u8], place: usize) -> Ran
-    ensures { (result ≡ ranOf session list.now answers.old log.old place)
+    ensures { (result ≡ ran_of session list.now answers.old log.old place)
         × (answers.new ≡ answersOf session list.now answers.old log.old place)
         × (log.new ≡ runLogOf session list.now answers.old log.old place) }
 {

@@ -2,7 +2,7 @@
 ghost use Rattle.std.specs.Prelude.{◌≡◌, ◌+◌, ◌<◌, ◌≤◌};
 ghost use Rattle.tree.specs.Parents.{Grown};
 ghost use Rattle.tree.specs.Turns as turns;
-ghost use Rattle.walk.specs.inner.Links.{Found, Linked, neighbourAt, Placed};
+ghost use Rattle.walk.specs.inner.Links.{Found, Linked, neighbour_at, Placed};
 
 use crate::reads;
 
@@ -41,7 +41,7 @@ pub fn first<'a>(
     u: usize,
 ) -> usize
     requires { (u < count) × ((count ≤ 256) × Linked count parents.now first.now next.now) }
-    ensures { Found count (neighbourAt count parents.now u) 0 result }
+    ensures { Found count (neighbour_at count parents.now u) 0 result }
 {
     if u == 0 {
         return link(first[0]);
@@ -59,7 +59,7 @@ pub fn next<'a>(
     k: usize,
 ) -> usize
     requires { Placed count parents.now first.now next.now u k }
-    ensures { Found count (neighbourAt count parents.now u) (k + 1) result }
+    ensures { Found count (neighbour_at count parents.now u) (k + 1) result }
 {
     if k < u {
         return link(first[u]);

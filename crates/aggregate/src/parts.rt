@@ -1,7 +1,7 @@
 // A session made of its parts.
 ghost use Rattle.std.specs.Prelude.{◌≡◌};
-ghost use Rattle.session.specs.Parts.{sessionBy};
-ghost use Rattle.aggregate.specs.inner.Afters.{pairsOf};
+ghost use Rattle.session.specs.Parts.{session_by};
+ghost use Rattle.aggregate.specs.inner.Afters.{pairs_of};
 
 use session::{Pairs, Session};
 use tree::Tree;
@@ -19,7 +19,7 @@ pub fn joined<'a>(
     down_messages: &'a [u32; 256],
     accepted: u32,
 ) -> Session
-    ensures { result ≡ sessionBy count parents.now values.now up_lease.now up_cache.now up_messages.now down_lease.now down_cache.now down_messages.now accepted }
+    ensures { result ≡ session_by count parents.now values.now up_lease.now up_cache.now up_messages.now down_lease.now down_cache.now down_messages.now accepted }
 {
     let tree = Tree {
         count,
@@ -38,7 +38,7 @@ pub fn joined<'a>(
 
 // The pairs of one direction.
 fn pairs<'a>(lease: &'a [u8; 256], cache: &'a [i64; 256], messages: &'a [u32; 256]) -> Pairs
-    ensures { result ≡ pairsOf lease.now cache.now messages.now }
+    ensures { result ≡ pairs_of lease.now cache.now messages.now }
 {
     Pairs {
         lease: *lease,

@@ -1,9 +1,9 @@
 // One request, served in place: in the parts of a session.
 ghost use Rattle.std.specs.Prelude.{◌≡◌, length};
 ghost use Rattle.session.specs.Holding.{Typed};
-ghost use Rattle.session.specs.Parts.{sessionBy};
-ghost use Rattle.aggregate.specs.Serving.{servedOf, logOf};
-ghost use Rattle.aggregate.specs.inner.Acts.{requestOf, servedAs, Servable};
+ghost use Rattle.session.specs.Parts.{session_by};
+ghost use Rattle.aggregate.specs.Serving.{served_of, log_of};
+ghost use Rattle.aggregate.specs.inner.Acts.{request_of, served_as, Servable};
 
 use crate::act::Act;
 use crate::{Outcome, Served, act, apply, judge, links, parts};
@@ -12,7 +12,7 @@ use trace::Logged;
 
 // A request to any session, which is taken apart once and put together once, whatever comes of it.
 pub fn whole(session: Session, x: usize, act: Act, log: &mut [u8], place: usize) -> Served
-    ensures { (result ≡ servedOf session (requestOf x act) (length log.old) place) × (log.new ≡ logOf session (requestOf x act) log.old place) }
+    ensures { (result ≡ served_of session (request_of x act) (length log.old) place) × (log.new ≡ log_of session (request_of x act) log.old place) }
 {
     let tree = session.tree;
     let count = tree.count;
@@ -77,8 +77,8 @@ fn tested(
     log: &mut [u8],
     place: usize,
 ) -> Outcome
-    requires { Typed (sessionBy count parents.now values.old up_lease.old up_cache.old up_messages.old down_lease.old down_cache.old down_messages.old accepted.old) }
-    ensures { (servedAs result (sessionBy count parents.now values.new up_lease.new up_cache.new up_messages.new down_lease.new down_cache.new down_messages.new accepted.new)
+    requires { Typed (session_by count parents.now values.old up_lease.old up_cache.old up_messages.old down_lease.old down_cache.old down_messages.old accepted.old) }
+    ensures { (served_as result (session_by count parents.now values.new up_lease.new up_cache.new up_messages.new down_lease.new down_cache.new down_messages.new accepted.new)
         ≡ servedOf (sessionBy count parents.now values.old up_lease.old up_cache.old up_messages.old down_lease.old down_cache.old down_messages.old accepted.old) (requestOf x act) (length log.old) place)
         × (log.new
         ≡ logOf (sessionBy count parents.now values.old up_lease.old up_cache.old up_messages.old down_lease.old down_cache.old down_messages.old accepted.old) (requestOf x act) log.old place) }
@@ -148,8 +148,8 @@ pub fn request<'a>(
     log: &mut [u8],
     place: usize,
 ) -> Outcome
-    requires { Servable (sessionBy count parents.now values.old up_lease.old up_cache.old up_messages.old down_lease.old down_cache.old down_messages.old accepted.old) first.now next.now }
-    ensures { (servedAs result (sessionBy count parents.now values.new up_lease.new up_cache.new up_messages.new down_lease.new down_cache.new down_messages.new accepted.new)
+    requires { Servable (session_by count parents.now values.old up_lease.old up_cache.old up_messages.old down_lease.old down_cache.old down_messages.old accepted.old) first.now next.now }
+    ensures { (served_as result (session_by count parents.now values.new up_lease.new up_cache.new up_messages.new down_lease.new down_cache.new down_messages.new accepted.new)
         ≡ servedOf (sessionBy count parents.now values.old up_lease.old up_cache.old up_messages.old down_lease.old down_cache.old down_messages.old accepted.old) (requestOf x act) (length log.old) place)
         × (log.new
         ≡ logOf (sessionBy count parents.now values.old up_lease.old up_cache.old up_messages.old down_lease.old down_cache.old down_messages.old accepted.old) (requestOf x act) log.old place) }

@@ -1,10 +1,10 @@
 // The requests of a list, each in its turn.
 ghost use Rattle.std.specs.Prelude.{◌≡◌, length};
-ghost use Rattle.requests.specs.Lists.{oneIfCombine};
-ghost use Rattle.session.specs.Parts.{sessionBy};
+ghost use Rattle.requests.specs.Lists.{one_if_combine};
+ghost use Rattle.session.specs.Parts.{session_by};
 ghost use Rattle.aggregate.specs.Running as spec;
 ghost use Rattle.aggregate.specs.inner.Acts.{Servable};
-ghost use Rattle.aggregate.specs.inner.Turns.{Starting, HasPlace, Addable, endedBy};
+ghost use Rattle.aggregate.specs.inner.Turns.{Starting, HasPlace, Addable, ended_by};
 
 use crate::{Outcome, Ran, Totals, act, links, parts, serve};
 use requests::{Item, Request};
@@ -30,7 +30,7 @@ pub fn whole(
     place: usize,
 ) -> Ran
     requires { Starting session list.now (length answers.old) count from }
-    ensures { (result ≡ spec.ranOf session list.now answers.old log.old place)
+    ensures { (result ≡ spec.ran_of session list.now answers.old log.old place)
         × (answers.new ≡ spec.answersOf session list.now answers.old log.old place)
         × (log.new ≡ spec.runLogOf session list.now answers.old log.old place) }
 {
@@ -105,9 +105,9 @@ fn each<'a>(
     log: &mut [u8],
     place: usize,
 ) -> Course
-    requires { Servable (sessionBy nodes parents.now values.old up_lease.old up_cache.old up_messages.old down_lease.old down_cache.old down_messages.old accepted.old) first.now next.now
+    requires { Servable (session_by nodes parents.now values.old up_lease.old up_cache.old up_messages.old down_lease.old down_cache.old down_messages.old accepted.old) first.now next.now
         × Starting (sessionBy nodes parents.now values.old up_lease.old up_cache.old up_messages.old down_lease.old down_cache.old down_messages.old accepted.old) list.now (length answers.old) count from }
-    ensures { endedBy result.refusal result.totals (sessionBy nodes parents.now values.new up_lease.new up_cache.new up_messages.new down_lease.new down_cache.new down_messages.new accepted.new) answers.new log.new
+    ensures { ended_by result.refusal result.totals (session_by nodes parents.now values.new up_lease.new up_cache.new up_messages.new down_lease.new down_cache.new down_messages.new accepted.new) answers.new log.new
         ≡ spec.end_of (sessionBy nodes parents.now values.old up_lease.old up_cache.old up_messages.old down_lease.old down_cache.old down_messages.old accepted.old) list.now answers.old log.old place }
 {
     let mut later_up = [0i64; 256];
@@ -162,7 +162,7 @@ fn each<'a>(
 // Stores a combine's answer at its place, and answers how many answers were stored.
 fn store(answers: &mut [i64], k: usize, request: Request, answer: i64) -> usize
     requires { HasPlace request k (length answers.old) }
-    ensures { (result ≡ oneIfCombine request) × (answers.new ≡ spec.stored request answer k answers.old) }
+    ensures { (result ≡ one_if_combine request) × (answers.new ≡ spec.stored request answer k answers.old) }
 {
     match request {
         Request::Combine(_) => {

@@ -18,43 +18,43 @@ parts : (x w : ℕ) → x / w / 2 * 2 * w + digit x w * w + x % w ≡ x
 unfolding digit
 parts x w = omega (arith, div-add-mod' x w, add-mul (x / w / 2 * 2) (x / w % 2) w, ap (λ (a : ℕ). a * w) (div-add-mod' (x / w) 2))
 
-pub digit-le : (x w : ℕ) → digit x w * w ≤ x
-digit-le x w = omega (arith, parts x w)
+pub digit_le : (x w : ℕ) → digit x w * w ≤ x
+digit_le x w = omega (arith, parts x w)
 
 -- ---- a patched number
 
-patch-is : (x w b : ℕ) → patch x w b ≡ (x / w / 2 * 2 + b) * w + x % w
+patch_is : (x w b : ℕ) → patch x w b ≡ (x / w / 2 * 2 + b) * w + x % w
 unfolding patch
-patch-is x w b = omega (arith, parts x w, add-mul (x / w / 2 * 2) b w)
+patch_is x w b = omega (arith, parts x w, add-mul (x / w / 2 * 2) b w)
 
 -- the digit that is there already
-pub patch-same : (x w : ℕ) → patch x w (digit x w) ≡ x
+pub patch_same : (x w : ℕ) → patch x w (digit x w) ≡ x
 unfolding patch
-patch-same x w = omega (arith, digit-le x w)
+patch_same x w = omega (arith, digit_le x w)
 
-by-steps : (x w d : ℕ) → x / (w * 2 * d) ≡ x / w / 2 / d
-by-steps x w d = sym (div-div-eq-div-mul x (w * 2) d) ∙ ap (λ (a : ℕ). a / d) (sym (div-div-eq-div-mul x w 2))
+by_steps : (x w d : ℕ) → x / (w * 2 * d) ≡ x / w / 2 / d
+by_steps x w d = sym (div-div-eq-div-mul x (w * 2) d) ∙ ap (λ (a : ℕ). a / d) (sym (div-div-eq-div-mul x w 2))
 
 module _ (x w b : ℕ) (pw : 0 < w) (hb : b < 2) where
   top : patch x w b / w ≡ x / w / 2 * 2 + b
-  top = rw (patch-is x w b) (digits_div (x / w / 2 * 2 + b) (mod-lt x pw))
+  top = rw (patch_is x w b) (digits_div (x / w / 2 * 2 + b) (mod-lt x pw))
 
   above : patch x w b / w / 2 ≡ x / w / 2
   above = rw top (omega arith)
 
-  pub digit-patch : digit (patch x w b) w ≡ b
+  pub digit_patch : digit (patch x w b) w ≡ b
   unfolding digit
-  digit-patch = rw top (omega arith)
+  digit_patch = rw top (omega arith)
 
-  pub patch-lt : (n : ℕ) → x < n * 2 * w → patch x w b < n * 2 * w
-  patch-lt n h =
-      rw (patch-is x w b)
+  pub patch_lt : (n : ℕ) → x < n * 2 * w → patch x w b < n * 2 * w
+  patch_lt n h =
+      rw (patch_is x w b)
       (digits_lt {q = x / w / 2 * 2 + b} {m = n * 2} {c = w} (omega (arith, (div-lt_iff_lt-mul {k = w} {x = x} {y = n * 2} pw).1 h)) (mod-lt x pw))
 
   -- a digit of a greater weight
   greater : (d : ℕ) → digit (patch x w b) (w * 2 * d) ≡ digit x (w * 2 * d)
   unfolding digit
-  greater d = rw (by-steps (patch x w b) w d, by-steps x w d, above)
+  greater d = rw (by_steps (patch x w b) w d, by_steps x w d, above)
 
 -- a digit of a lesser weight
 low : (a l u d : ℕ) → 0 < u → digit (a * (d * 2 * u) + l) u ≡ digit l u
@@ -64,7 +64,7 @@ low a l u d pu =
 
 lesser : (x u d b : ℕ) → 0 < u → digit (patch x (d * 2 * u) b) u ≡ digit x u
 lesser x u d b pu =
-    rw (patch-is x (d * 2 * u) b) (low (x / (d * 2 * u) / 2 * 2 + b) (x % (d * 2 * u)) u d pu)
+    rw (patch_is x (d * 2 * u) b) (low (x / (d * 2 * u) / 2 * 2 + b) (x % (d * 2 * u)) u d pu)
     ∙ sym (low (x / (d * 2 * u)) (x % (d * 2 * u)) u d pu)
     ∙ ap (λ (y : ℕ). digit y u) (div-add-mod' x (d * 2 * u))
 
@@ -74,8 +74,8 @@ lesser x u d b pu =
 pub powers : (p d : ℕ) → 2 ^ (p + suc d) ≡ 2 ^ p * 2 * 2 ^ d
 powers p d = ap (λ (e : ℕ). 2 ^ e) (add-suc p d ∙ omega arith) ∙ pow-add 2 (suc p) d ∙ ap (λ (x : ℕ). x * 2 ^ d) (pow-suc 2 p)
 
-pub other-digit : (x p q b : ℕ) → b < 2 → p ≢ q → digit (patch x (2 ^ p) b) (2 ^ q) ≡ digit x (2 ^ q)
-other-digit x p q b hb ne = go (dec_lt p q)
+pub other_digit : (x p q b : ℕ) → b < 2 → p ≢ q → digit (patch x (2 ^ p) b) (2 ^ q) ≡ digit x (2 ^ q)
+other_digit x p q b hb ne = go (dec_lt p q)
   where
     up : (d : ℕ) → suc p + d ≡ q → digit (patch x (2 ^ p) b) (2 ^ q) ≡ digit x (2 ^ q)
     up d e = rw (ap (λ (e : ℕ). 2 ^ e) {x = q} {y = p + suc d} (omega arith), powers p d) (greater x (2 ^ p) b (pow_pos p) hb (2 ^ d))

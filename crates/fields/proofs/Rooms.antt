@@ -10,94 +10,94 @@ use native.Mathlib.Omega.{arith}
 use lib.Dec.{leb, ltb}
 use borrow.Author.Tests.{le-leb, lt-leb, lt-ltb, leb-true, ltb-true}
 use lib.ListN.{length}
-use Rattle.fields.specs.Fields.{field, putField}
-use Rattle.fields.specs.Usable.{usableBits, lies, takes, field_at, put_at, told}
-use Rattle.fields.specs.Promises.{Found-exactly, Not-found-exactly, Taken-exactly, Taken-is-read, Refused-is-kept}
+use Rattle.fields.specs.Fields.{field, put_field}
+use Rattle.fields.specs.Usable.{usable_bits, lies, takes, field_at, put_at, told}
+use Rattle.fields.specs.Promises.{FoundExactly, NotFoundExactly, TakenExactly, TakenIsRead, RefusedIsKept}
 use Rattle.fields.specs.declared.Field.TheVariants.{Value, Short}
-use Rattle.fields.proofs.Kept.{length-kept}
+use Rattle.fields.proofs.Kept.{length_kept}
 use Rattle.fields.proofs.ReadBack.{read_back}
 
 -- ---- the test for a field
 
 module _ (n place w : ℕ) where
-  pub there : w ≤ 64 → place + w ≤ usableBits n → lies n place w ≡ true
+  pub there : w ≤ 64 → place + w ≤ usable_bits n → lies n place w ≡ true
   unfolding lies
-  there h l = rw (le-leb w 64 h, le-leb (place + w) (usableBits n) l)
+  there h l = rw (le-leb w 64 h, le-leb (place + w) (usable_bits n) l)
 
   pub too_wide : 64 < w → lies n place w ≡ false
   unfolding lies
   too_wide h = rw (lt-leb w 64 h)
 
-  pub past_end : usableBits n < place + w → lies n place w ≡ false
+  pub past_end : usable_bits n < place + w → lies n place w ≡ false
   unfolding lies
-  past_end h = rw (lt-leb (place + w) (usableBits n) h) (and-false (leb w 64))
+  past_end h = rw (lt-leb (place + w) (usable_bits n) h) (and-false (leb w 64))
 
   -- the test by what is left from place on, which no sum can overflow
-  pub by-rest : w ≤ 64 → place ≤ usableBits n → leb w (usableBits n - place) ≡ lies n place w
-  by-rest h l = go (dec_le w (usableBits n - place))
+  pub by_rest : w ≤ 64 → place ≤ usable_bits n → leb w (usable_bits n - place) ≡ lies n place w
+  by_rest h l = go (dec_le w (usable_bits n - place))
     where
-      go : Dec (w ≤ usableBits n - place) → leb w (usableBits n - place) ≡ lies n place w
-      go (yes d) = le-leb w (usableBits n - place) d ∙ sym (there h (omega arith))
-      go (no d) = lt-leb w (usableBits n - place) (omega arith) ∙ sym (past_end (omega arith))
+      go : Dec (w ≤ usable_bits n - place) → leb w (usable_bits n - place) ≡ lies n place w
+      go (yes d) = le-leb w (usable_bits n - place) d ∙ sym (there h (omega arith))
+      go (no d) = lt-leb w (usable_bits n - place) (omega arith) ∙ sym (past_end (omega arith))
 
-  pub lying : lies n place w ≡ true → (w ≤ 64) × (place + w ≤ usableBits n)
+  pub lying : lies n place w ≡ true → (w ≤ 64) × (place + w ≤ usable_bits n)
   unfolding lies
   lying e =
-      let t = (and-eq-true_iff (leb w 64) (leb (place + w) (usableBits n))).0 e in
-      (leb-true w 64 t.0, leb-true (place + w) (usableBits n) t.1)
+      let t = (and-eq-true_iff (leb w 64) (leb (place + w) (usable_bits n))).0 e in
+      (leb-true w 64 t.0, leb-true (place + w) (usable_bits n) t.1)
 
-  pub missing : lies n place w ≡ false → (64 < w) ⊎ (usableBits n < place + w)
-  missing e = go (dec_le w 64) (dec_le (place + w) (usableBits n))
+  pub missing : lies n place w ≡ false → (64 < w) ⊎ (usable_bits n < place + w)
+  missing e = go (dec_le w 64) (dec_le (place + w) (usable_bits n))
     where
-      go : Dec (w ≤ 64) → Dec (place + w ≤ usableBits n) → (64 < w) ⊎ (usableBits n < place + w)
+      go : Dec (w ≤ 64) → Dec (place + w ≤ usable_bits n) → (64 < w) ⊎ (usable_bits n < place + w)
       go (yes h) (yes l) = absurd (true≢false (sym (there h l) ∙ e))
       go (yes h) (no l) = inr (omega arith)
       go (no h) l = inl (omega arith)
 
 -- ---- reading
 
-pub found-exactly : Found-exactly
+pub found_exactly : FoundExactly
 unfolding field_at
-found-exactly s place w v = (
+found_exactly s place w v = (
   λ e. go (lies (length s) place w) refl e,
   λ h. rw (there (length s) place w h.0 h.1, h.2),
 )
   where
-    go : (b : Bool) → lies (length s) place w ≡ b → told (cond b (Value (field s place w)) Short) ≡ (0, v) → (w ≤ 64) × (place + w ≤ usableBits (length s)) × (v ≡ field s place w)
+    go : (b : Bool) → lies (length s) place w ≡ b → told (cond b (Value (field s place w)) Short) ≡ (0, v) → (w ≤ 64) × (place + w ≤ usable_bits (length s)) × (v ≡ field s place w)
     go true p e = let h = lying (length s) place w p in (h.0, h.1, sym (ap (λ (t : ℕ × ℕ). t.1) e))
     go false p e = absurd (suc-ne-zero 0 (ap (λ (t : ℕ × ℕ). t.0) e))
 
-pub not-found-exactly : Not-found-exactly
+pub not_found_exactly : NotFoundExactly
 unfolding field_at
-not-found-exactly s place w = (
+not_found_exactly s place w = (
   λ e. go (lies (length s) place w) refl e,
   ⊎_elim (λ h. rw (too_wide (length s) place w h)) (λ h. rw (past_end (length s) place w h)),
 )
   where
-    go : (b : Bool) → lies (length s) place w ≡ b → told (cond b (Value (field s place w)) Short) ≡ (1, 0) → (64 < w) ⊎ (usableBits (length s) < place + w)
+    go : (b : Bool) → lies (length s) place w ≡ b → told (cond b (Value (field s place w)) Short) ≡ (1, 0) → (64 < w) ⊎ (usable_bits (length s) < place + w)
     go true p e = absurd (suc-ne-zero 0 (sym (ap (λ (t : ℕ × ℕ). t.0) e)))
     go false p e = missing (length s) place w p
 
 -- what an answer tells
-pub found : (s : List ℕ) (place w v : ℕ) → field_at s place w ≡ Value v → (w ≤ 64) × (place + w ≤ usableBits (length s)) × (v ≡ field s place w)
-found s place w v e = (found-exactly s place w v).0 (ap told e)
+pub found : (s : List ℕ) (place w v : ℕ) → field_at s place w ≡ Value v → (w ≤ 64) × (place + w ≤ usable_bits (length s)) × (v ≡ field s place w)
+found s place w v e = (found_exactly s place w v).0 (ap told e)
 
-pub cut_off : (s : List ℕ) (place w : ℕ) → w ≤ 64 → field_at s place w ≡ Short → usableBits (length s) < place + w
-cut_off s place w h e = ⊎_elim (λ (l : 64 < w). absurd (omega arith)) (λ l. l) ((not-found-exactly s place w).0 (ap told e))
+pub cut_off : (s : List ℕ) (place w : ℕ) → w ≤ 64 → field_at s place w ≡ Short → usable_bits (length s) < place + w
+cut_off s place w h e = ⊎_elim (λ (l : 64 < w). absurd (omega arith)) (λ l. l) ((not_found_exactly s place w).0 (ap told e))
 
 -- what an answer tells of the first field
 module _ (s : List ℕ) (w : ℕ) where
   pub first_found : (v : ℕ) → field_at s 0 w ≡ Value v → (w ≤ 8 * length s) × (v ≡ field s 0 w)
   first_found v e = let f = found s 0 w v e in (omega (arith, f.1), f.2)
 
-  pub first-cut-off : w ≤ 64 → field_at s 0 w ≡ Short → 8 * length s < w
-  first-cut-off h e = omega (arith, cut_off s 0 w h e)
+  pub first_cut_off : w ≤ 64 → field_at s 0 w ≡ Short → 8 * length s < w
+  first_cut_off h e = omega (arith, cut_off s 0 w h e)
 
 -- ---- writing
 
-pub taken-exactly : Taken-exactly
+pub taken_exactly : TakenExactly
 unfolding takes
-taken-exactly n place w v = (
+taken_exactly n place w v = (
   λ e.
       let t = (and-eq-true_iff (lies n place w) (ltb v (2 ^ w))).0 e in
       let h = lying n place w t.0 in
@@ -105,17 +105,17 @@ taken-exactly n place w v = (
   λ h. rw (there n place w h.0 h.1, lt-ltb v (2 ^ w) h.2),
 )
 
-pub taken-is-put : (s : List ℕ) (place w v : ℕ) → w ≤ 64 → place + w ≤ usableBits (length s) → v < 2 ^ w → put_at s place w v ≡ putField s place w v
+pub taken_is_put : (s : List ℕ) (place w v : ℕ) → w ≤ 64 → place + w ≤ usable_bits (length s) → v < 2 ^ w → put_at s place w v ≡ put_field s place w v
 unfolding put_at
-taken-is-put s place w v h l m = rw ((taken-exactly (length s) place w v).1 (h, l, m))
+taken_is_put s place w v h l m = rw ((taken_exactly (length s) place w v).1 (h, l, m))
 
-pub taken-is-read : Taken-is-read
+pub taken_is_read : TakenIsRead
 unfolding put_at field_at
-taken-is-read s place w v e =
-    let h = (taken-exactly (length s) place w v).0 e in
-    rw (e, length-kept s place w v, there (length s) place w h.0 h.1)
+taken_is_read s place w v e =
+    let h = (taken_exactly (length s) place w v).0 e in
+    rw (e, length_kept s place w v, there (length s) place w h.0 h.1)
     (ap (λ (n : ℕ). (0, n)) (read_back s place w v h.2 (omega (arith, h.1))))
 
-pub refused-is-kept : Refused-is-kept
+pub refused_is_kept : RefusedIsKept
 unfolding put_at
-refused-is-kept s place w v e = rw e
+refused_is_kept s place w v e = rw e

@@ -8,6 +8,6 @@ field s place zero = 0
 field s place (suc w) = field s place w * 2 + bit s (place + w)
 
 -- the bytes s with the low w bits of v in the w bits from place on
-unfoldable pub putField : List ℕ → ℕ → ℕ → ℕ → List ℕ
-putField s place zero v = s
-putField s place (suc w) v = putField (put_bit s (place + w) (v % 2)) place w (v / 2)
+unfoldable pub put_field : List ℕ → ℕ → ℕ → ℕ → List ℕ
+put_field s place zero v = s
+put_field s place (suc w) v = put_field (put_bit s (place + w) (v % 2)) place w (v / 2)

@@ -1,16 +1,16 @@
 -- What reading and writing a field answer: only the first 65,536 bytes, or all of fewer, are ever used.
 use Rattle.std.specs.Prelude.{ℕ, ◌+◌, ◌*◌, ◌^◌, min, List, Bool, cond, ◌&&◌, length, leb, ltb}
-use Rattle.fields.specs.Fields.{field, putField}
+use Rattle.fields.specs.Fields.{field, put_field}
 use Rattle.fields.specs.declared.Field.{Field}
 use Rattle.fields.specs.declared.Field.TheVariants.{Value, Short}
 
 -- how many bits of n bytes are ever used
-abbrev pub usableBits : ℕ → ℕ
-usableBits n = 8 * min n 65536
+abbrev pub usable_bits : ℕ → ℕ
+usable_bits n = 8 * min n 65536
 
 -- the w bits from place on are at most 64 and lie in the usable ones of n bytes
 unfoldable pub lies : ℕ → ℕ → ℕ → Bool
-lies n place w = leb w 64 && leb (place + w) (usableBits n)
+lies n place w = leb w 64 && leb (place + w) (usable_bits n)
 
 -- the w bits from place on are at most 64, lie in the usable ones of n bytes, and have room for v
 unfoldable pub takes : ℕ → ℕ → ℕ → ℕ → Bool
@@ -22,7 +22,7 @@ field_at s place w = cond (lies (length s) place w) (Value (field s place w)) Sh
 
 -- what writing v into the w bits from place on leaves
 unfoldable pub put_at : List ℕ → ℕ → ℕ → ℕ → List ℕ
-put_at s place w v = cond (takes (length s) place w v) (putField s place w v) s
+put_at s place w v = cond (takes (length s) place w v) (put_field s place w v) s
 
 -- document 01's number and value for what was found: 1 where the bytes end before a field that is due
 abbrev pub told : Field → ℕ × ℕ

@@ -1,7 +1,7 @@
 // One bit of a slice of bytes, most significant bit first.
 ghost use Rattle.std.specs.Prelude.{◌≡◌, ◌*◌, ◌<◌, length};
 ghost use Rattle.fields.specs.Bits.{bit, put_bit, patch};
-ghost use Rattle.fields.specs.Bits.{weight as Bits·weight};
+ghost use Rattle.fields.specs.Bits;
 
 pub fn read(bytes: &[u8], k: usize) -> u64
     requires { k < 8 * length bytes.now }
@@ -22,7 +22,7 @@ pub fn write(bytes: &mut [u8], k: usize, b: u8)
 // x with its bit k made b.
 fn patched(x: u8, k: usize, b: u8) -> u8
     requires { b < 2 }
-    ensures { result ≡ patch x (Bits·weight k) b }
+    ensures { result ≡ patch x (Bits.weight k) b }
 {
     let w = weight(k);
     x - x / w % 2 * w + b * w
@@ -30,7 +30,7 @@ fn patched(x: u8, k: usize, b: u8) -> u8
 
 // What bit k counts in its byte.
 fn weight(k: usize) -> u8
-    ensures { result ≡ Bits·weight k }
+    ensures { result ≡ Bits.weight k }
 {
     1u8 << (7 - k % 8)
 }

@@ -1,14 +1,14 @@
 // Which fields lie in a slice, and which numbers in a field.
 ghost use Rattle.std.specs.Prelude.{◌≡◌, ◌<◌, ◌≤◌, ◌^◌, ltb};
-ghost use Rattle.fields.specs.Usable.{usableBits};
-ghost use Rattle.fields.specs.Usable.{lies as Usable·lies, takes as Usable·takes};
+ghost use Rattle.fields.specs.Usable.{usable_bits};
+ghost use Rattle.fields.specs.Usable;
 
 // Only so many bytes of a slice are ever used.
 const USABLE: usize = 65536;
 
 // How many bits of a slice of len bytes are ever used.
 pub fn usable_bits(len: usize) -> usize
-    ensures { result ≡ usableBits len }
+    ensures { result ≡ usable_bits len }
 {
     if USABLE < len {
         return 8 * USABLE;
@@ -18,7 +18,7 @@ pub fn usable_bits(len: usize) -> usize
 
 // Whether the width bits from place on are at most 64 and lie in the usable ones of len bytes.
 pub fn lies(len: usize, place: usize, width: usize) -> bool
-    ensures { result ≡ Usable·lies len place width }
+    ensures { result ≡ Usable.lies len place width }
 {
     let end = usable_bits(len);
     if 64 < width {
@@ -33,7 +33,7 @@ pub fn lies(len: usize, place: usize, width: usize) -> bool
 // Whether the width bits from place on are at most 64, lie in the usable ones of len bytes, and have
 // room for value.
 pub fn takes(len: usize, place: usize, width: usize, value: u64) -> bool
-    ensures { result ≡ Usable·takes len place width value }
+    ensures { result ≡ Usable.takes len place width value }
 {
     if lies(len, place, width) {
         return holds(width, value);

@@ -1,13 +1,13 @@
 // The bits of a field, one by one.
 ghost use Rattle.std.specs.Prelude.{◌≡◌, ◌+◌, ◌≤◌, length};
-ghost use Rattle.fields.specs.Fields.{field, putField};
-ghost use Rattle.fields.specs.Usable.{usableBits};
+ghost use Rattle.fields.specs.Fields.{field, put_field};
+ghost use Rattle.fields.specs.Usable.{usable_bits};
 
 use crate::bit;
 
 // The number in the width bits from place on, read from the first bit to the last.
 pub fn read(bytes: &[u8], place: usize, width: usize) -> u64
-    requires { (width ≤ 64) × (place + width ≤ usableBits (length bytes.now)) }
+    requires { (width ≤ 64) × (place + width ≤ usable_bits (length bytes.now)) }
     ensures { result ≡ field bytes.now place width }
 {
     let mut number: u64 = 0;
@@ -19,8 +19,8 @@ pub fn read(bytes: &[u8], place: usize, width: usize) -> u64
 
 // Writes the low bits of value into the width bits from place on, from the last to the first.
 pub fn write(bytes: &mut [u8], place: usize, width: usize, value: u64)
-    requires { place + width ≤ usableBits (length bytes.old) }
-    ensures { bytes.new ≡ putField bytes.old place width value }
+    requires { place + width ≤ usable_bits (length bytes.old) }
+    ensures { bytes.new ≡ put_field bytes.old place width value }
 {
     let mut left = width;
     let mut rest = value;

@@ -11,15 +11,15 @@ use Rattle.tree.specs.Kept.{when, kept}
 use Rattle.rule.specs.Pair.{combine, write, belongs, next}
 use Rattle.rule.specs.Pair as pair
 use Rattle.messages.specs.Records.{kind_of as recordKind, width_of}
-use Rattle.messages.specs.Writing.{bitsOfAll}
-use Rattle.messages.proofs.Stretches.{bits-append}
+use Rattle.messages.specs.Writing.{bits_of_all}
+use Rattle.messages.proofs.Stretches.{bits_append}
 use Rattle.requests.specs.declared.Request.{Request}
-use Rattle.session.specs.Holding.{leaseOf}
+use Rattle.session.specs.Holding.{lease_of}
 use Rattle.session.specs.declared.Session.{Session}
 use Rattle.mechanism.specs.Pairwise.{about, moves, speaks, exchange, Pair, Ranging}
 use Rattle.history.specs.History.{own_of}
-use Rattle.history.proofs.Succession.{Trusted, spokenBy, AllInOrder}
-use Rattle.history.proofs.Owning.{weight-all}
+use Rattle.history.proofs.Succession.{Trusted, spoken_by, AllInOrder}
+use Rattle.history.proofs.Owning.{weight_all}
 
 -- probe and response have 76 bits where there is no lease; an update has 58 where there is one, and 76 with a release where it ends
 unfoldable pub bits_at : ℕ → pair.Request → ℕ
@@ -30,23 +30,23 @@ bits_at (suc zero) write = 76
 bits_at (suc (suc k)) write = 58
 
 -- the bits of a list of requests, from the number k on
-unfoldable pub bitsIn : ℕ → ℕ → List pair.Request → ℕ
-bitsIn b k [] = 0
-bitsIn b k (r ∷ l) = bits_at k r + bitsIn b (next b k r) l
+unfoldable pub bits_in : ℕ → ℕ → List pair.Request → ℕ
+bits_in b k [] = 0
+bits_in b k (r ∷ l) = bits_at k r + bits_in b (next b k r) l
 
 module _ (op : Op ℤ) (b : ℕ) (ranging : Ranging op) (u v : ℕ) where
   -- a request that is or is not of the pair's own list
-  bits-belongs : (k : ℕ) (r : pair.Request) (near : Bool) (y : ℤ) (l : List pair.Request)
-      → bitsIn b k (belongs r near l) ≡ bitsOfAll (when (speaks r near k) (exchange r k u v y)) + bitsIn b (moves b r near k) l
-  unfolding bits_at bitsIn belongs moves bitsOfAll width_of recordKind
-  bits-belongs k combine true y l = omega arith
-  bits-belongs zero combine false y l = refl
-  bits-belongs (suc k) combine false y l = rw (ne_eqb (suc k) 0 (omega arith))
-  bits-belongs zero write true y l = refl
-  bits-belongs (suc zero) write true y l = refl
-  bits-belongs (suc (suc k)) write true y l = rw (ne_eqb (suc (suc k)) 0 (omega arith))
-  bits-belongs k write false y l = omega arith
+  bits_belongs : (k : ℕ) (r : pair.Request) (near : Bool) (y : ℤ) (l : List pair.Request)
+      → bits_in b k (belongs r near l) ≡ bits_of_all (when (speaks r near k) (exchange r k u v y)) + bits_in b (moves b r near k) l
+  unfolding bits_at bits_in belongs moves bits_of_all width_of recordKind
+  bits_belongs k combine true y l = omega arith
+  bits_belongs zero combine false y l = refl
+  bits_belongs (suc k) combine false y l = rw (ne_eqb (suc k) 0 (omega arith))
+  bits_belongs zero write true y l = refl
+  bits_belongs (suc zero) write true y l = refl
+  bits_belongs (suc (suc k)) write true y l = rw (ne_eqb (suc (suc k)) 0 (omega arith))
+  bits_belongs k write false y l = omega arith
 
-  pub bits-all : (s : Session) (l : List Request) → Trusted op b s → AllInOrder op b s l → Pair s u v → bitsOfAll (kept (about u v) (spokenBy op b s l)) ≡ bitsIn b (leaseOf s u v) (own_of s.tree u v l)
-  unfolding bitsIn bitsOfAll
-  bits-all = weight-all op b ranging u v bitsOfAll refl bits-append (bitsIn b) (λ k. refl) bits-belongs
+  pub bits_all : (s : Session) (l : List Request) → Trusted op b s → AllInOrder op b s l → Pair s u v → bits_of_all (kept (about u v) (spoken_by op b s l)) ≡ bits_in b (lease_of s u v) (own_of s.tree u v l)
+  unfolding bits_in bits_of_all
+  bits_all = weight_all op b ranging u v bits_of_all refl bits_append (bits_in b) (λ k. refl) bits_belongs

@@ -5,52 +5,52 @@ use native.Mathlib.Omega.{arith}
 use lib.ListN.{length}
 use Rattle.tree.specs.Operation.{sum}
 use Rattle.tree.specs.Kept.{kept}
-use Rattle.rule.specs.Pair.{numberAfter, messages}
-use Rattle.rule.proofs.Bound.{bound, five-halves}
+use Rattle.rule.specs.Pair.{number_after, messages}
+use Rattle.rule.proofs.Bound.{bound, five_halves}
 use Rattle.rule.proofs.Configurations.{configured}
-use Rattle.session.specs.Holding.{leaseOf, sentOf}
+use Rattle.session.specs.Holding.{lease_of, sent_of}
 use Rattle.session.specs.declared.Session.{Session}
 use Rattle.mechanism.specs.Pairwise.{about, Pair}
-use Rattle.mechanism.proofs.Fits.{sum-ranging}
-use Rattle.history.specs.History.{History, sessionAfter, acceptedIn, loggedIn, Good, own_of}
-use Rattle.history.specs.Promises.{Numbers-ruled, Counts-ruled, Counts-logged, Bounded-from, Numbers-configured, Bounded, Logged}
-use Rattle.history.proofs.Owning.{number-all, sent-all, spoken-all}
+use Rattle.mechanism.proofs.Fits.{sum_ranging}
+use Rattle.history.specs.History.{History, session_after, accepted_in, logged_in, Good, own_of}
+use Rattle.history.specs.Promises.{NumbersRuled, CountsRuled, CountsLogged, BoundedFrom, NumbersConfigured, Bounded, Logged}
+use Rattle.history.proofs.Owning.{number_all, sent_all, spoken_all}
 use Rattle.history.proofs.Histories.{trusted, came}
-use Rattle.history.proofs.Beginning.{fresh-good, no-lease, no-messages}
+use Rattle.history.proofs.Beginning.{fresh_good, no_lease, no_messages}
 
-pub numbers-ruled : Numbers-ruled
-numbers-ruled o g h u v p =
+pub numbers_ruled : NumbersRuled
+numbers_ruled o g h u v p =
     let k = came o g h in
-    ap (λ (s : Session). leaseOf s u v) k.session-is ∙ number-all sum 2 sum-ranging u v o (acceptedIn o h) (trusted o g) k.in_order p
+    ap (λ (s : Session). lease_of s u v) k.session_is ∙ number_all sum 2 sum_ranging u v o (accepted_in o h) (trusted o g) k.in_order p
 
-pub counts-ruled : Counts-ruled
-counts-ruled o g h u v p =
+pub counts_ruled : CountsRuled
+counts_ruled o g h u v p =
     let k = came o g h in
-    ap (λ (s : Session). sentOf s u v) k.session-is ∙ sent-all sum 2 sum-ranging u v o (acceptedIn o h) (trusted o g) k.in_order p
+    ap (λ (s : Session). sent_of s u v) k.session_is ∙ sent_all sum 2 sum_ranging u v o (accepted_in o h) (trusted o g) k.in_order p
 
 -- as many messages are logged for the pair
-logged-ruled : (o : Session) → Good o → (h : History) (u v : ℕ) → Pair o u v → length (kept (about u v) (loggedIn o h)) ≡ messages 2 (leaseOf o u v) (own_of o.tree u v (acceptedIn o h))
-logged-ruled o g h u v p =
+logged_ruled : (o : Session) → Good o → (h : History) (u v : ℕ) → Pair o u v → length (kept (about u v) (logged_in o h)) ≡ messages 2 (lease_of o u v) (own_of o.tree u v (accepted_in o h))
+logged_ruled o g h u v p =
     let k = came o g h in
-    ap (λ ms. length (kept (about u v) ms)) k.logged-are ∙ spoken-all sum 2 sum-ranging u v o (acceptedIn o h) (trusted o g) k.in_order p
+    ap (λ ms. length (kept (about u v) ms)) k.logged_are ∙ spoken_all sum 2 sum_ranging u v o (accepted_in o h) (trusted o g) k.in_order p
 
-pub counts-logged : Counts-logged
-counts-logged o g h u v p = counts-ruled o g h u v p ∙ ap (λ (k : ℕ). sentOf o u v + k) (sym (logged-ruled o g h u v p))
+pub counts_logged : CountsLogged
+counts_logged o g h u v p = counts_ruled o g h u v p ∙ ap (λ (k : ℕ). sent_of o u v + k) (sym (logged_ruled o g h u v p))
 
-pub bounded-from : Bounded-from
-bounded-from o g h u v p m c d = omega (arith, counts-ruled o g h u v p, bound m (leaseOf o u v) (own_of o.tree u v (acceptedIn o h)) c d)
+pub bounded_from : BoundedFrom
+bounded_from o g h u v p m c d = omega (arith, counts_ruled o g h u v p, bound m (lease_of o u v) (own_of o.tree u v (accepted_in o h)) c d)
 
 -- ---- from a fresh session on
 
-pub numbers-configured : Numbers-configured
-numbers-configured o f h u v p =
-    let l = own_of o.tree u v (acceptedIn o h) in
-    (configured l (leaseOf (sessionAfter o h) u v)).1 (ap (λ (k : ℕ). numberAfter 2 k l) (sym (no-lease o f u v)) ∙ sym (numbers-ruled o (fresh-good o f) h u v p))
+pub numbers_configured : NumbersConfigured
+numbers_configured o f h u v p =
+    let l = own_of o.tree u v (accepted_in o h) in
+    (configured l (lease_of (session_after o h) u v)).1 (ap (λ (k : ℕ). number_after 2 k l) (sym (no_lease o f u v)) ∙ sym (numbers_ruled o (fresh_good o f) h u v p))
 
 pub logged : Logged
-logged o f h u v p = omega (arith, counts-logged o (fresh-good o f) h u v p, no-messages o f u v)
+logged o f h u v p = omega (arith, counts_logged o (fresh_good o f) h u v p, no_messages o f u v)
 
 pub bounded : Bounded
 bounded o f h u v p c d =
-    let l = own_of o.tree u v (acceptedIn o h) in
-    omega (arith, counts-ruled o (fresh-good o f) h u v p, no-messages o f u v, ap (λ (k : ℕ). messages 2 k l) (no-lease o f u v), five-halves l c d)
+    let l = own_of o.tree u v (accepted_in o h) in
+    omega (arith, counts_ruled o (fresh_good o f) h u v p, no_messages o f u v, ap (λ (k : ℕ). messages 2 k l) (no_lease o f u v), five_halves l c d)

@@ -9,7 +9,7 @@ use Rattle.tree.specs.declared.Tree.{Tree}
 use Rattle.rule.specs.Pair.{belongs, own, next, price, messages}
 use Rattle.requests.specs.declared.Request.{Request}
 use Rattle.requests.specs.declared.Request.TheVariants.{Combine, Write}
-use Rattle.history.specs.History.{lastWritten, own_of, allPairs}
+use Rattle.history.specs.History.{last_written, own_of, all_pairs}
 
 abbrev path : Tree
 path = record { count = 3; parents = 0 ∷ 0 ∷ 1 ∷ replicate 253 0 }
@@ -17,10 +17,10 @@ path = record { count = 3; parents = 0 ∷ 0 ∷ 1 ∷ replicate 253 0 }
 abbrev earlier : List Request
 earlier = Combine 0 ∷ Write 2 (pos 5) ∷ Combine 0 ∷ Write 2 (pos 7) ∷ Write 2 (pos 9) ∷ []
 
-path-sum : fold sum (λ u. lastWritten u (pos 0) earlier) path.count ≡ pos 9
-unfolding lastWritten
-path-sum = refl
+path_sum : fold sum (λ u. last_written u (pos 0) earlier) path.count ≡ pos 9
+unfolding last_written
+path_sum = refl
 
-path-messages : allPairs path (λ u v. messages 2 0 (own_of path u v (earlier ++ (Combine 0 ∷ [])))) ≡ 16
+path_messages : all_pairs path (λ u v. messages 2 0 (own_of path u v (earlier ++ (Combine 0 ∷ [])))) ≡ 16
 unfolding climb below belongs own next price messages
-path-messages = refl
+path_messages = refl

@@ -28,17 +28,17 @@ pub record Trusted (op : Op ℤ) (b : ℕ) (s : Session) : Type 0 where
   pub right : Right op s
 
 module _ (op : Op ℤ) (b : ℕ) where
-  unfoldable pub afterAll : Session → List Request → Session
-  afterAll s [] = s
-  afterAll s (r ∷ l) = afterAll (after op b s r) l
+  unfoldable pub after_all : Session → List Request → Session
+  after_all s [] = s
+  after_all s (r ∷ l) = after_all (after op b s r) l
 
-  unfoldable pub answersTo : Session → List Request → List ℤ
-  answersTo s [] = []
-  answersTo s (r ∷ l) = answer_of r (says op s r).sum ++ answersTo (after op b s r) l
+  unfoldable pub answers_to : Session → List Request → List ℤ
+  answers_to s [] = []
+  answers_to s (r ∷ l) = answer_of r (says op s r).sum ++ answers_to (after op b s r) l
 
-  unfoldable pub spokenBy : Session → List Request → List Message
-  spokenBy s [] = []
-  spokenBy s (r ∷ l) = (says op s r).log ++ spokenBy (after op b s r) l
+  unfoldable pub spoken_by : Session → List Request → List Message
+  spoken_by s [] = []
+  spoken_by s (r ∷ l) = (says op s r).log ++ spoken_by (after op b s r) l
 
   -- each is in order when its turn comes
   abbrev pub AllInOrder : Session → List Request → Type 0

@@ -1,6 +1,6 @@
 -- The words of demand 3: what a history of calls is, and what is said of it. Start reading here.
 use Rattle.std.specs.Prelude.{◌≡◌, true, cond, ◌≢◌, List, [], ◌∷◌, ◌++◌, ℕ, zero, suc, ◌+◌, ◌*◌, ◌≤◌, ◌<◌, eqb, ℤ, pos, length, take}
-use Rattle.fields.specs.Usable.{usableBits}
+use Rattle.fields.specs.Usable.{usable_bits}
 use Rattle.twos.specs.Twos.{within}
 use Rattle.tree.specs.Operation.{fold, aggregate, plus, sum}
 use Rattle.tree.specs.Sides.{adjacent, side}
@@ -8,20 +8,20 @@ use Rattle.tree.specs.Kept.{when}
 use Rattle.tree.specs.declared.Tree.{Tree}
 use Rattle.rule.specs.Pair.{own}
 use Rattle.rule.specs.Pair as pair
-use Rattle.messages.specs.Reading.{messagesFrom}
+use Rattle.messages.specs.Reading.{messages_from}
 use Rattle.messages.specs.declared.Message.{Message}
 use Rattle.requests.specs.Lists.{node_of, list_of}
-use Rattle.requests.specs.Reading.{requestsOf}
+use Rattle.requests.specs.Reading.{requests_of}
 use Rattle.requests.specs.declared.Request.{Request}
 use Rattle.requests.specs.declared.Request.TheVariants.{Combine, Write}
 use Rattle.session.specs.Holding.{Typed}
 use Rattle.session.specs.Soundness.{Sound}
-use Rattle.session.specs.Starting.{startedOf, loadedOf}
+use Rattle.session.specs.Starting.{started_of, loaded_of}
 use Rattle.session.specs.declared.Session.{Session}
 use Rattle.mechanism.specs.Requests.{kind_of}
 use Rattle.mechanism.specs.Pairwise.{Right}
-use Rattle.aggregate.specs.Serving.{servedOf, logOf}
-use Rattle.aggregate.specs.Running.{listRefusal, ranOf, answersOf, runLogOf}
+use Rattle.aggregate.specs.Serving.{served_of, log_of}
+use Rattle.aggregate.specs.Running.{list_refusal, ran_of, answers_of, run_log_of}
 use Rattle.aggregate.specs.declared.Served.{Served}
 use Rattle.aggregate.specs.declared.Ran.{Ran}
 
@@ -59,8 +59,8 @@ answer_of (Combine x) z = z ∷ []
 answer_of (Write x y) z = []
 
 -- What comes of a call that makes a request: the request is accepted where it answers 0, and is lent no answer places.
-abbrev pub ofRequest : Request → Served → List ℕ → Result
-ofRequest r d log =
+abbrev pub of_request : Request → Served → List ℕ → Result
+of_request r d log =
     record {
       refusal = d.outcome.refusal;
       messages = d.outcome.messages;
@@ -87,7 +87,7 @@ of_list list d places log =
       index = d.index;
       requests = d.totals.requests;
       stored = d.totals.answers;
-      accepted = take d.totals.requests (requestsOf list);
+      accepted = take d.totals.requests (requests_of list);
       answers = take d.totals.answers places;
       session = d.session;
       places = places;
@@ -96,39 +96,39 @@ of_list list d places log =
 
 -- What comes of a call to the session s, as the contract of the function says.
 unfoldable pub result : Session → Call → Result
-result s (combine x log place) = ofRequest (Combine x) (servedOf s (Combine x) (length log) place) (logOf s (Combine x) log place)
-result s (write x value small log place) = ofRequest (Write x value) (servedOf s (Write x value) (length log) place) (logOf s (Write x value) log place)
-result s (run list answers log place) = of_list list (ranOf s list answers log place) (answersOf s list answers log place) (runLogOf s list answers log place)
+result s (combine x log place) = of_request (Combine x) (served_of s (Combine x) (length log) place) (log_of s (Combine x) log place)
+result s (write x value small log place) = of_request (Write x value) (served_of s (Write x value) (length log) place) (log_of s (Write x value) log place)
+result s (run list answers log place) = of_list list (ran_of s list answers log place) (answers_of s list answers log place) (run_log_of s list answers log place)
 
 -- the log place that a call is handed, and the answer places and the log that it is lent
-abbrev pub fromPlace : Call → ℕ
-fromPlace (combine x log place) = place
-fromPlace (write x value small log place) = place
-fromPlace (run list answers log place) = place
+abbrev pub from_place : Call → ℕ
+from_place (combine x log place) = place
+from_place (write x value small log place) = place
+from_place (run list answers log place) = place
 
-abbrev pub lentPlaces : Call → List ℤ
-lentPlaces (combine x log place) = []
-lentPlaces (write x value small log place) = []
-lentPlaces (run list answers log place) = answers
+abbrev pub lent_places : Call → List ℤ
+lent_places (combine x log place) = []
+lent_places (write x value small log place) = []
+lent_places (run list answers log place) = answers
 
-abbrev pub lentLog : Call → List ℕ
-lentLog (combine x log place) = log
-lentLog (write x value small log place) = log
-lentLog (run list answers log place) = log
+abbrev pub lent_log : Call → List ℕ
+lent_log (combine x log place) = log
+lent_log (write x value small log place) = log
+lent_log (run list answers log place) = log
 
 -- A refused call: a combine or a write that answers a number, a list that is refused as a whole. It returns its number with zeros, and the session and all that was lent as they were.
 abbrev pub Refused : Session → Call → Type 0
-Refused s (combine x log place) = 0 < (servedOf s (Combine x) (length log) place).outcome.refusal
-Refused s (write x value small log place) = 0 < (servedOf s (Write x value) (length log) place).outcome.refusal
-Refused s (run list answers log place) = 0 < listRefusal s list (length answers)
+Refused s (combine x log place) = 0 < (served_of s (Combine x) (length log) place).outcome.refusal
+Refused s (write x value small log place) = 0 < (served_of s (Write x value) (length log) place).outcome.refusal
+Refused s (run list answers log place) = 0 < list_refusal s list (length answers)
 
-abbrev pub refusedWith : ℕ → Session → List ℤ → List ℕ → Result
-refusedWith n s places log =
+abbrev pub refused_with : ℕ → Session → List ℤ → List ℕ → Result
+refused_with n s places log =
     record { refusal = n; messages = 0; next = 0; answer = pos 0; index = 0; requests = 0; stored = 0; accepted = []; answers = []; session = s; places = places; log = log }
 
 -- the messages that a call logged: those that stand in the log from its place to the next one
-abbrev pub loggedBy : Session → Call → List Message
-loggedBy s c = messagesFrom (result s c).next (result s c).log (fromPlace c) (result s c).next
+abbrev pub logged_by : Session → Call → List Message
+logged_by s c = messages_from (result s c).next (result s c).log (from_place c) (result s c).next
 
 -- ---- histories
 
@@ -137,9 +137,9 @@ abbrev pub History : Type 0
 History = List Call
 
 -- the session that the last call of a history returned
-unfoldable pub sessionAfter : Session → History → Session
-sessionAfter o [] = o
-sessionAfter o (c ∷ h) = sessionAfter (result o c).session h
+unfoldable pub session_after : Session → History → Session
+session_after o [] = o
+session_after o (c ∷ h) = session_after (result o c).session h
 
 -- what the calls of a history give, one after the other
 unfoldable pub gathered : {A : Type 0} → (Session → Call → List A) → Session → History → List A
@@ -147,21 +147,21 @@ gathered give o [] = []
 gathered give o (c ∷ h) = give o c ++ gathered give (result o c).session h
 
 -- the accepted requests of a history, the answers of the combines among them, and the messages that were logged
-abbrev pub acceptedIn : Session → History → List Request
-acceptedIn = gathered (λ s c. (result s c).accepted)
+abbrev pub accepted_in : Session → History → List Request
+accepted_in = gathered (λ s c. (result s c).accepted)
 
-abbrev pub answersIn : Session → History → List ℤ
-answersIn = gathered (λ s c. (result s c).answers)
+abbrev pub answers_in : Session → History → List ℤ
+answers_in = gathered (λ s c. (result s c).answers)
 
-abbrev pub loggedIn : Session → History → List Message
-loggedIn = gathered loggedBy
+abbrev pub logged_in : Session → History → List Message
+logged_in = gathered logged_by
 
 -- ---- where a history starts
 
 -- A fresh session: as `Session::load` returns it for an accepted table, whatever session it was handed, or `Session::fresh` for a tree.
 pub data Fresh : Session → Type 0 where
-  loaded : (s : Session) (bytes : List ℕ) → (loadedOf s bytes).refusal ≡ 0 → Fresh (loadedOf s bytes).session
-  started : (t : Tree) → length t.parents ≡ 256 → (startedOf t).refusal ≡ 0 → Fresh (startedOf t).session
+  loaded : (s : Session) (bytes : List ℕ) → (loaded_of s bytes).refusal ≡ 0 → Fresh (loaded_of s bytes).session
+  started : (t : Tree) → length t.parents ≡ 256 → (started_of t).refusal ≡ 0 → Fresh (started_of t).session
 
 -- A good session: it is sound, and each leased cache is the sum of its side. Fresh ones are good; so is all that comes of a good one.
 pub record Good (o : Session) : Type 0 where
@@ -172,14 +172,14 @@ pub record Good (o : Session) : Type 0 where
 -- ---- what is said of a history
 
 -- what node u holds after a request, if it held z
-abbrev pub heldAfter : ℕ → ℤ → Request → ℤ
-heldAfter u z (Combine x) = z
-heldAfter u z (Write x y) = cond (eqb x u) y z
+abbrev pub held_after : ℕ → ℤ → Request → ℤ
+held_after u z (Combine x) = z
+held_after u z (Write x y) = cond (eqb x u) y z
 
 -- the value last written at node u by these requests, z where there is none
-unfoldable pub lastWritten : ℕ → ℤ → List Request → ℤ
-lastWritten u z [] = z
-lastWritten u z (r ∷ l) = lastWritten u (heldAfter u z r) l
+unfoldable pub last_written : ℕ → ℤ → List Request → ℤ
+last_written u z [] = z
+last_written u z (r ∷ l) = last_written u (held_after u z r) l
 
 -- none of these requests is a write at u
 abbrev pub NoWrite : ℕ → List Request → Type 0
@@ -192,17 +192,17 @@ abbrev pub own_of : Tree → ℕ → ℕ → List Request → List pair.Request
 own_of t u v = own kind_of (λ r. side t.parents u v (node_of r))
 
 -- f of all ordered pairs of neighbours, added up
-abbrev pub allPairs : Tree → (ℕ → ℕ → ℕ) → ℕ
-allPairs t f = fold plus (λ u. aggregate plus (f u) (λ v. adjacent t.parents v u) t.count) t.count
+abbrev pub all_pairs : Tree → (ℕ → ℕ → ℕ) → ℕ
+all_pairs t f = fold plus (λ u. aggregate plus (f u) (λ v. adjacent t.parents v u) t.count) t.count
 
 -- ---- the rounds on two nodes
 
 -- n rounds, whatever is written: combine at 0, write at 1, write at 1
-unfoldable pub roundsOf : (ℕ → ℤ) → (ℕ → ℤ) → ℕ → List Request
-roundsOf y z zero = []
-roundsOf y z (suc n) = Combine 0 ∷ Write 1 (y n) ∷ Write 1 (z n) ∷ roundsOf y z n
+unfoldable pub rounds_of : (ℕ → ℤ) → (ℕ → ℤ) → ℕ → List Request
+rounds_of y z zero = []
+rounds_of y z (suc n) = Combine 0 ∷ Write 1 (y n) ∷ Write 1 (z n) ∷ rounds_of y z n
 
 -- A call that runs the list of n rounds, with n answer places and room for all records: probe and response, update, update and release have 210 bits.
 pub data RunsRounds (n : ℕ) : Call → Type 0 where
-  runs-rounds : (y z : ℕ → ℤ) → ((k : ℕ) → (within 32 (y k) ≡ true) × (within 32 (z k) ≡ true)) → (answers : List ℤ) (log : List ℕ) (place : ℕ) → n ≤ length answers
-      → place + 210 * n ≤ usableBits (length log) → RunsRounds n (run (list_of (roundsOf y z n)) answers log place)
+  runs_rounds : (y z : ℕ → ℤ) → ((k : ℕ) → (within 32 (y k) ≡ true) × (within 32 (z k) ≡ true)) → (answers : List ℤ) (log : List ℕ) (place : ℕ) → n ≤ length answers
+      → place + 210 * n ≤ usable_bits (length log) → RunsRounds n (run (list_of (rounds_of y z n)) answers log place)

@@ -1,22 +1,22 @@
 -- The cell of a pair is what the session holds of it.
 use mathlib.Core.Path.{◌≡◌, refl, sym, ap, ◌∙◌}
 use Prim.Native.Nat.{ℕ}
-use Rattle.session.specs.Holding.{leaseOf, cacheOf, sentOf}
+use Rattle.session.specs.Holding.{lease_of, cache_of, sent_of}
 use Rattle.session.specs.declared.Session.{Session}
 use Rattle.mechanism.specs.Applying.{Cell, cell}
-use Rattle.mechanism.specs.Requests.{linksOf}
+use Rattle.mechanism.specs.Requests.{links_of}
 
 module _ (s : Session) (u v : ℕ) where
-  pub cell-is : cell (linksOf s) u v ≡ record { lease = leaseOf s u v; cache = cacheOf s u v; sent = sentOf s u v }
+  pub cell_is : cell (links_of s) u v ≡ record { lease = lease_of s u v; cache = cache_of s u v; sent = sent_of s u v }
   unfolding cell
-  cell-is = refl
+  cell_is = refl
 
   -- the same, field by field
-  pub lease-held : {c : Cell} → cell (linksOf s) u v ≡ c → leaseOf s u v ≡ c.lease
-  lease-held e = ap (λ (c : Cell). c.lease) (sym cell-is ∙ e)
+  pub lease_held : {c : Cell} → cell (links_of s) u v ≡ c → lease_of s u v ≡ c.lease
+  lease_held e = ap (λ (c : Cell). c.lease) (sym cell_is ∙ e)
 
-  pub cache-held : {c : Cell} → cell (linksOf s) u v ≡ c → cacheOf s u v ≡ c.cache
-  cache-held e = ap (λ (c : Cell). c.cache) (sym cell-is ∙ e)
+  pub cache_held : {c : Cell} → cell (links_of s) u v ≡ c → cache_of s u v ≡ c.cache
+  cache_held e = ap (λ (c : Cell). c.cache) (sym cell_is ∙ e)
 
-  pub sent-held : {c : Cell} → cell (linksOf s) u v ≡ c → sentOf s u v ≡ c.sent
-  sent-held e = ap (λ (c : Cell). c.sent) (sym cell-is ∙ e)
+  pub sent_held : {c : Cell} → cell (links_of s) u v ≡ c → sent_of s u v ≡ c.sent
+  sent_held e = ap (λ (c : Cell). c.sent) (sym cell_is ∙ e)

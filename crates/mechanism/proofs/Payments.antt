@@ -9,12 +9,12 @@ use borrow.Author.Tests.{ne_eqb}
 use Rattle.tree.specs.Sides.{side}
 use Rattle.tree.specs.Kept.{when}
 use Rattle.rule.specs.Pair.{Request, combine, write, price}
-use Rattle.session.specs.Holding.{leaseOf}
+use Rattle.session.specs.Holding.{lease_of}
 use Rattle.requests.specs.Lists.{node_of}
 use Rattle.mechanism.specs.Requests.{kind_of}
-use Rattle.mechanism.specs.Pairwise.{pays, speaks, exchange, toldOf}
-use Rattle.mechanism.specs.Promises.{Pair-pays}
-use Rattle.mechanism.proofs.Says.{lemma-4-1}
+use Rattle.mechanism.specs.Pairwise.{pays, speaks, exchange, told_of}
+use Rattle.mechanism.specs.Promises.{PairPays}
+use Rattle.mechanism.proofs.Says.{lemma_4_1}
 
 -- what is said of the pair, counted
 pub counted : (r : Request) (near : Bool) (k u v : ℕ) (z : ℤ) → length (when (speaks r near k) (exchange r k u v z)) ≡ pays r near k
@@ -27,5 +27,5 @@ counted write true zero u v z = refl
 counted write true (suc zero) u v z = refl
 counted write true (suc (suc k)) u v z = rw (ne_eqb (suc (suc k)) 0 (omega arith))
 
-pub pair-pays : Pair-pays
-pair-pays op b s sd r hx u v p = ap length (lemma-4-1 op b s sd r hx u v p) ∙ counted (kind_of r) (side s.tree.parents u v (node_of r)) (leaseOf s u v) u v (toldOf op s r u v)
+pub pair_pays : PairPays
+pair_pays op b s sd r hx u v p = ap length (lemma_4_1 op b s sd r hx u v p) ∙ counted (kind_of r) (side s.tree.parents u v (node_of r)) (lease_of s u v) u v (told_of op s r u v)

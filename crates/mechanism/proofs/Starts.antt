@@ -7,13 +7,13 @@ use Rattle.tree.specs.declared.Tree.{Tree}
 use Rattle.session.specs.Holding.{Long, Typed}
 use Rattle.session.specs.Starting.{empty, fresh_of}
 use Rattle.session.proofs.Starts.{all_same, pair_same}
-use Rattle.mechanism.specs.Promises.{Fresh-right}
+use Rattle.mechanism.specs.Promises.{FreshRight}
 
-fresh-typed : (t : Tree) → length t.parents ≡ 256 → Typed (fresh_of t)
-fresh-typed t h = record { parents-long = h; values-long = length-replicate 256 (pos 0); values-small = λ u. rw (all_same (pos 0) 256 u); up-long = long; down-long = long }
+fresh_typed : (t : Tree) → length t.parents ≡ 256 → Typed (fresh_of t)
+fresh_typed t h = record { parents_long = h; values_long = length-replicate 256 (pos 0); values_small = λ u. rw (all_same (pos 0) 256 u); up_long = long; down_long = long }
   where
     long : Long empty
     long = record { leases = length-replicate {A = ℕ} 256 0; caches = length-replicate 256 (pos 0); counts = length-replicate {A = ℕ} 256 0 }
 
-pub fresh-right : Fresh-right
-fresh-right op t h = (fresh-typed t h, λ u v p leased. absurd (leased (pair_same {A = ℕ} 0 u v)))
+pub fresh_right : FreshRight
+fresh_right op t h = (fresh_typed t h, λ u v p leased. absurd (leased (pair_same {A = ℕ} 0 u v)))

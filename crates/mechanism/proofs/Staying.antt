@@ -10,17 +10,17 @@ use lib.ListN.{get_or}
 use Rattle.tree.specs.Sides.{side}
 use Rattle.tree.specs.Sizes.{size}
 use Rattle.tree.specs.Ranges.{Range}
-use Rattle.tree.proofs.Toward.{adjacent-sym, nested}
+use Rattle.tree.proofs.Toward.{adjacent_sym, nested}
 use Rattle.rule.specs.Pair.{Request}
-use Rattle.session.specs.Holding.{leaseOf, cacheOf, sentOf}
+use Rattle.session.specs.Holding.{lease_of, cache_of, sent_of}
 use Rattle.session.specs.Soundness.{limit, Ordered, Unused, Sound}
 use Rattle.session.specs.declared.Pairs.{Pairs}
 use Rattle.session.specs.declared.Session.{Session}
-use Rattle.mechanism.specs.Applying.{Cell, readAt, Links}
-use Rattle.mechanism.specs.Requests.{linksOf}
+use Rattle.mechanism.specs.Applying.{Cell, read_at, Links}
+use Rattle.mechanism.specs.Requests.{links_of}
 use Rattle.mechanism.specs.Pairwise.{moves, pays, Pair}
 use Rattle.mechanism.proofs.Cells.{way}
-use Rattle.mechanism.proofs.Moves.{moves-mono, moves-small, pays-two}
+use Rattle.mechanism.proofs.Moves.{moves_mono, moves_small, pays_two}
 
 -- the session after a request, with these values and pairs
 abbrev pub renewed : Session → List ℤ → Links → Session
@@ -28,40 +28,40 @@ renewed s vs l = record { tree = s.tree; values = vs; up = l.up; down = l.down; 
 
 -- it moved from s by a request r at x
 pub record Moved (b : ℕ) (s : Session) (r : Request) (x : ℕ) (vs : List ℤ) (l : Links) : Type 0 where
-  pub leases : (u v : ℕ) → Pair s u v → leaseOf (renewed s vs l) u v ≡ moves b r (side s.tree.parents u v x) (leaseOf s u v)
-  pub counts : (u v : ℕ) → Pair s u v → sentOf (renewed s vs l) u v ≡ sentOf s u v + pays r (side s.tree.parents u v x) (leaseOf s u v)
-  pub caches : (u v : ℕ) → Pair s u v → Range (size s.tree.parents s.tree.count u v) (cacheOf (renewed s vs l) u v)
-  pub idle : (t : Bool) (i : ℕ) → i < 256 → (i ≡ 0) ⊎ (s.tree.count ≤ i) → readAt (way t l) i ≡ readAt (way t (linksOf s)) i
+  pub leases : (u v : ℕ) → Pair s u v → lease_of (renewed s vs l) u v ≡ moves b r (side s.tree.parents u v x) (lease_of s u v)
+  pub counts : (u v : ℕ) → Pair s u v → sent_of (renewed s vs l) u v ≡ sent_of s u v + pays r (side s.tree.parents u v x) (lease_of s u v)
+  pub caches : (u v : ℕ) → Pair s u v → Range (size s.tree.parents s.tree.count u v) (cache_of (renewed s vs l) u v)
+  pub idle : (t : Bool) (i : ℕ) → i < 256 → (i ≡ 0) ⊎ (s.tree.count ≤ i) → read_at (way t l) i ≡ read_at (way t (links_of s)) i
   pub empty : (i : ℕ) → i < 256 → s.tree.count ≤ i → get_or vs i (pos 0) ≡ pos 0
 
-unused-same : (p q : Pairs) (i : ℕ) → readAt p i ≡ readAt q i → Unused q i → Unused p i
-unused-same p q i e h =
+unused_same : (p q : Pairs) (i : ℕ) → read_at p i ≡ read_at q i → Unused q i → Unused p i
+unused_same p q i e h =
     record {
-      no-lease = ap (λ (c : Cell). c.lease) e ∙ h.no-lease;
-      no-cache = ap (λ (c : Cell). c.cache) e ∙ h.no-cache;
-      no-messages = ap (λ (c : Cell). c.sent) e ∙ h.no-messages;
+      no_lease = ap (λ (c : Cell). c.lease) e ∙ h.no_lease;
+      no_cache = ap (λ (c : Cell). c.cache) e ∙ h.no_cache;
+      no_messages = ap (λ (c : Cell). c.sent) e ∙ h.no_messages;
     }
 
 module _ {b : ℕ} {s : Session} (sd : Sound b s) {r : Request} {x : ℕ} {vs : List ℤ} {l : Links} (m : Moved b s r x vs l) (hx : x < s.tree.count) where
   -- numbers stay in order, since the sides lie within each other
-  still-ordered : Ordered s.tree.parents s.tree.count (leaseOf (renewed s vs l))
-  still-ordered w u v hw hu hv a e d =
+  still_ordered : Ordered s.tree.parents s.tree.count (lease_of (renewed s vs l))
+  still_ordered w u v hw hu hv a e d =
       let near : Pair s u v = record { near = hu; far = hv; edge = e } in
-      let further : Pair s w u = record { near = hw; far = hu; edge = adjacent-sym s.tree.parents u w ∙ a } in
+      let further : Pair s w u = record { near = hw; far = hu; edge = adjacent_sym s.tree.parents u w ∙ a } in
       rw (m.leases u v near, m.leases w u further)
-      (moves-mono b r (side s.tree.parents u v x) (side s.tree.parents w u x)
-      (nested s.tree.parents s.tree.count sd.tree-in-rule.grown u w v x hu hx a e d)
-      (leaseOf s u v) (leaseOf s w u) (sd.ordered w u v hw hu hv a e d) (sd.low u v hu hv e))
+      (moves_mono b r (side s.tree.parents u v x) (side s.tree.parents w u x)
+      (nested s.tree.parents s.tree.count sd.tree_in_rule.grown u w v x hu hx a e d)
+      (lease_of s u v) (lease_of s w u) (sd.ordered w u v hw hu hv a e d) (sd.low u v hu hv e))
 
-  pub moved-sound : s.accepted < limit → Sound b (renewed s vs l)
-  moved-sound free =
+  pub moved_sound : s.accepted < limit → Sound b (renewed s vs l)
+  moved_sound free =
       record {
-        tree-in-rule = sd.tree-in-rule;
-        low = λ u v hu hv a. rw (m.leases u v (record { near = hu; far = hv; edge = a })) (moves-small b r (side s.tree.parents u v x) (leaseOf s u v) (sd.low u v hu hv a));
-        ordered = still-ordered;
-        caches-in = λ u v hu hv a. m.caches u v (record { near = hu; far = hv; edge = a });
+        tree_in_rule = sd.tree_in_rule;
+        low = λ u v hu hv a. rw (m.leases u v (record { near = hu; far = hv; edge = a })) (moves_small b r (side s.tree.parents u v x) (lease_of s u v) (sd.low u v hu hv a));
+        ordered = still_ordered;
+        caches_in = λ u v hu hv a. m.caches u v (record { near = hu; far = hv; edge = a });
         few = omega arith;
-        paid = λ u v hu hv a. omega (arith, m.counts u v (record { near = hu; far = hv; edge = a }), sd.paid u v hu hv a, pays-two r (side s.tree.parents u v x) (leaseOf s u v));
-        no_pairs = λ i h u. let o = sd.no_pairs i h u in (unused-same l.up s.up i (m.idle true i h u) o.0, unused-same l.down s.down i (m.idle false i h u) o.1);
-        no-values = m.empty;
+        paid = λ u v hu hv a. omega (arith, m.counts u v (record { near = hu; far = hv; edge = a }), sd.paid u v hu hv a, pays_two r (side s.tree.parents u v x) (lease_of s u v));
+        no_pairs = λ i h u. let o = sd.no_pairs i h u in (unused_same l.up s.up i (m.idle true i h u) o.0, unused_same l.down s.down i (m.idle false i h u) o.1);
+        no_values = m.empty;
       }

@@ -16,35 +16,35 @@ use Rattle.session.specs.declared.Session.{Session}
 use Rattle.mechanism.specs.Requests.{valued}
 
 module _ (s : Session) (x : ℕ) (z : ℤ) where
-  pub valued-off : (u : ℕ) → u ≢ x → value_of (valued s x z) u ≡ value_of s u
-  valued-off u d = get_or-set_other s.values x u z (pos 0) d
+  pub valued_off : (u : ℕ) → u ≢ x → value_of (valued s x z) u ≡ value_of s u
+  valued_off u d = get_or-set_other s.values x u z (pos 0) d
 
   -- what holds of z and of all values holds of all values then
-  pub valued-has : (P : ℤ → Type 0) → Typed s → x < 256 → P z → ((u : ℕ) → P (value_of s u)) → (u : ℕ) → P (value_of (valued s x z) u)
-  valued-has P t h new old u = either (ℕ_discrete u x)
-      (λ e. rw (e, get_or-set_same s.values x z (pos 0) (omega (arith, t.values-long))) new)
-      (λ d. rw (valued-off u d) (old u))
+  pub valued_has : (P : ℤ → Type 0) → Typed s → x < 256 → P z → ((u : ℕ) → P (value_of s u)) → (u : ℕ) → P (value_of (valued s x z) u)
+  valued_has P t h new old u = either (ℕ_discrete u x)
+      (λ e. rw (e, get_or-set_same s.values x z (pos 0) (omega (arith, t.values_long))) new)
+      (λ d. rw (valued_off u d) (old u))
 
 -- a sound session is sound with a new value at a node
-pub valued-sound : {b : ℕ} (s : Session) (x : ℕ) (z : ℤ) → Sound b s → x < s.tree.count → Sound b (valued s x z)
-valued-sound s x z i h =
+pub valued_sound : {b : ℕ} (s : Session) (x : ℕ) (z : ℤ) → Sound b s → x < s.tree.count → Sound b (valued s x z)
+valued_sound s x z i h =
     record {
-      tree-in-rule = i.tree-in-rule;
+      tree_in_rule = i.tree_in_rule;
       low = i.low;
       ordered = i.ordered;
-      caches-in = i.caches-in;
+      caches_in = i.caches_in;
       few = i.few;
       paid = i.paid;
       no_pairs = i.no_pairs;
-      no-values = λ j l m. valued-off s x z j (omega arith) ∙ i.no-values j l m;
+      no_values = λ j l m. valued_off s x z j (omega arith) ∙ i.no_values j l m;
     }
 
-pub valued-typed : (s : Session) (x : ℕ) (z : ℤ) → Typed s → x < 256 → within 32 z ≡ true → Typed (valued s x z)
-valued-typed s x z t h small =
+pub valued_typed : (s : Session) (x : ℕ) (z : ℤ) → Typed s → x < 256 → within 32 z ≡ true → Typed (valued s x z)
+valued_typed s x z t h small =
     record {
-      parents-long = t.parents-long;
-      values-long = rw length-set t.values-long;
-      values-small = valued-has s x z (λ v. within 32 v ≡ true) t h small t.values-small;
-      up-long = t.up-long;
-      down-long = t.down-long;
+      parents_long = t.parents_long;
+      values_long = rw length-set t.values_long;
+      values_small = valued_has s x z (λ v. within 32 v ≡ true) t h small t.values_small;
+      up_long = t.up_long;
+      down_long = t.down_long;
     }

@@ -8,14 +8,14 @@ use Rattle.session.specs.Soundness.{Sound}
 use Rattle.session.specs.declared.Session.{Session}
 use Rattle.mechanism.specs.Views.{view}
 use Rattle.mechanism.specs.Requests.{valued, combines, writes}
-use Rattle.mechanism.proofs.Asking.{asks, probes, responses, combine-tour}
-use Rattle.mechanism.proofs.Telling.{tells, updates, releases, write-tour}
+use Rattle.mechanism.proofs.Asking.{asks, probes, responses, combine_tour}
+use Rattle.mechanism.proofs.Telling.{tells, updates, releases, write_tour}
 
 module _ (op : Op ℤ) (b : ℕ) (s : Session) (i : Sound b s) (x : ℕ) (hx : x < s.tree.count) where
-  pub combines-tour : (combines op s x).log ≡ tour s.tree.parents s.tree.count (asks (view s)) probes (responses op (view s)) s.tree.count x
+  pub combines_tour : (combines op s x).log ≡ tour s.tree.parents s.tree.count (asks (view s)) probes (responses op (view s)) s.tree.count x
   unfolding combines
-  combines-tour = combine-tour op (view s) i.tree-in-rule.grown x hx
+  combines_tour = combine_tour op (view s) i.tree_in_rule.grown x hx
 
-  pub writes-tour : (z : ℤ) → writes op s x z ≡ tour s.tree.parents s.tree.count (tells (view s)) (updates op (view (valued s x z)) x) (releases (view s)) s.tree.count x
+  pub writes_tour : (z : ℤ) → writes op s x z ≡ tour s.tree.parents s.tree.count (tells (view s)) (updates op (view (valued s x z)) x) (releases (view s)) s.tree.count x
   unfolding writes
-  writes-tour z = write-tour op (view (valued s x z)) x i.tree-in-rule.grown hx
+  writes_tour z = write_tour op (view (valued s x z)) x i.tree_in_rule.grown hx

@@ -28,14 +28,14 @@ module _ (op : Op ℤ) (q : View) where
   abbrev pub hears : (ℕ → ℕ → Said) → ℕ → ℕ → Said
   hears next u w = heard (eqb (q.lease w u) 0) next u w
 
-  unfoldable pub stepIf : Bool → (ℕ → ℕ → Said) → ℕ → ℕ → Said → Said
-  stepIf true next u w acc = let h = hears next u w in said (op.◌⊕◌ acc.sum h.sum) (acc.log ++ h.log)
-  stepIf false next u w acc = acc
+  unfoldable pub step_if : Bool → (ℕ → ℕ → Said) → ℕ → ℕ → Said → Said
+  step_if true next u w acc = let h = hears next u w in said (op.◌⊕◌ acc.sum h.sum) (acc.log ++ h.log)
+  step_if false next u w acc = acc
 
   -- u's value, and what u, come from v, hears of its first k candidates in turn; `next` walks on
   unfoldable pub sofar : (ℕ → ℕ → Said) → ℕ → ℕ → ℕ → Said
   sofar next u v zero = said (q.value u) []
-  sofar next u v (suc k) = stepIf (other q.parents u v (turn q.count u k)) next u (turn q.count u k) (sofar next u v k)
+  sofar next u v (suc k) = step_if (other q.parents u v (turn q.count u k)) next u (turn q.count u k) (sofar next u v k)
 
   -- the walk at u, come from v, with a falling number
   unfoldable pub ask : ℕ → ℕ → ℕ → Said

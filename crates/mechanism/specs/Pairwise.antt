@@ -9,17 +9,17 @@ use Rattle.requests.specs.declared.Request.{Request}
 use Rattle.requests.specs.declared.Request.TheVariants.{Combine, Write}
 use Rattle.messages.specs.declared.Message.{Message}
 use Rattle.messages.specs.declared.Message.TheVariants.{Probe, Response, Update}
-use Rattle.session.specs.Holding.{value_of, leaseOf, cacheOf}
+use Rattle.session.specs.Holding.{value_of, lease_of, cache_of}
 use Rattle.session.specs.declared.Session.{Session}
 use Rattle.mechanism.specs.Views.{View, view}
 use Rattle.mechanism.specs.Combining.{ask}
 use Rattle.mechanism.specs.Spreading.{total, released}
-use Rattle.mechanism.specs.Applying.{fromOf, toOf}
+use Rattle.mechanism.specs.Applying.{from_of, to_of}
 use Rattle.mechanism.specs.Requests.{valued}
 
 -- the pair (u,v) owns the message
 abbrev pub about : ℕ → ℕ → Message → Bool
-about u v m = eqb u (fromOf m) && eqb v (toOf m)
+about u v m = eqb u (from_of m) && eqb v (to_of m)
 
 -- the lease number of a pair after a request, and the messages that it costs the pair; the test says whether the request is on u's side
 unfoldable pub moves : ℕ → pair.Request → Bool → ℕ → ℕ
@@ -53,15 +53,15 @@ module _ (op : Op ℤ) (q : View) where
   tell x u w = carry x q.count u w
 
 -- what u tells v in a session: when v asks, in a write of z at x, and in a request
-abbrev pub replyOf : Op ℤ → Session → ℕ → ℕ → ℤ
-replyOf op s u v = reply op (view s) u v
+abbrev pub reply_of : Op ℤ → Session → ℕ → ℕ → ℤ
+reply_of op s u v = reply op (view s) u v
 
-abbrev pub tellOf : Op ℤ → Session → ℕ → ℤ → ℕ → ℕ → ℤ
-tellOf op s x z u v = tell op (view (valued s x z)) x u v
+abbrev pub tell_of : Op ℤ → Session → ℕ → ℤ → ℕ → ℕ → ℤ
+tell_of op s x z u v = tell op (view (valued s x z)) x u v
 
-abbrev pub toldOf : Op ℤ → Session → Request → ℕ → ℕ → ℤ
-toldOf op s (Combine x) u v = replyOf op s u v
-toldOf op s (Write x z) u v = tellOf op s x z u v
+abbrev pub told_of : Op ℤ → Session → Request → ℕ → ℕ → ℤ
+told_of op s (Combine x) u v = reply_of op s u v
+told_of op s (Write x z) u v = tell_of op s x z u v
 
 -- the messages of a pair with number k that tells y: a probe and its response; or an update, and a release where k was 1
 abbrev pub exchange : pair.Request → ℕ → ℕ → ℕ → ℤ → List Message
@@ -76,7 +76,7 @@ pub record Pair (s : Session) (u v : ℕ) : Type 0 where
 
 -- each leased cache is the aggregate of its side
 abbrev pub Right : Op ℤ → Session → Type 0
-Right op s = (u v : ℕ) → Pair s u v → leaseOf s u v ≢ 0 → cacheOf s u v ≡ aggregate op (value_of s) (side s.tree.parents u v) s.tree.count
+Right op s = (u v : ℕ) → Pair s u v → lease_of s u v ≢ 0 → cache_of s u v ≡ aggregate op (value_of s) (side s.tree.parents u v) s.tree.count
 
 -- the values of a session are plain: the operation's ε does not change them
 abbrev pub Plain : Op ℤ → Session → Type 0

@@ -1,8 +1,8 @@
 -- When a combine or a write is refused, with which number: 6, 7, 8, 9, 11 in this order. 0 is no refusal.
 use Rattle.std.specs.Prelude.{◌≡◌, Bool, true, false, cond, ◌&&◌, ◌⊎◌, List, [], ◌∷◌, ℕ, ◌+◌, ◌≤◌, ◌<◌, ltb}
-use Rattle.fields.specs.Usable.{usableBits}
+use Rattle.fields.specs.Usable.{usable_bits}
 use Rattle.messages.specs.Records.{fits}
-use Rattle.messages.specs.Writing.{bitsOfAll, roomForAll}
+use Rattle.messages.specs.Writing.{bits_of_all, room_for_all}
 use Rattle.messages.specs.declared.Message.{Message}
 use Rattle.session.specs.Soundness.{limit, sound}
 use Rattle.session.specs.declared.Session.{Session}
@@ -21,12 +21,12 @@ pub data Ruled (b : ℕ) (s : Session) (x len place : ℕ) (ms : List Message) :
   -- 1,048,576 requests are already accepted
   no_more : sound b s ≡ true → x < s.tree.count → limit ≤ s.accepted → Ruled b s x len place ms 8
   -- the place is past the usable log, or there are too few bits for all records
-  no_room : sound b s ≡ true → x < s.tree.count → s.accepted < limit → (usableBits len < place) ⊎ (usableBits len < place + bitsOfAll ms) → Ruled b s x len place ms 9
+  no_room : sound b s ≡ true → x < s.tree.count → s.accepted < limit → (usable_bits len < place) ⊎ (usable_bits len < place + bits_of_all ms) → Ruled b s x len place ms 9
   -- a value does not fit
-  misfit : sound b s ≡ true → x < s.tree.count → s.accepted < limit → place + bitsOfAll ms ≤ usableBits len → all_fit ms ≡ false → Ruled b s x len place ms 11
-  accepted : sound b s ≡ true → x < s.tree.count → s.accepted < limit → place + bitsOfAll ms ≤ usableBits len → all_fit ms ≡ true → Ruled b s x len place ms 0
+  misfit : sound b s ≡ true → x < s.tree.count → s.accepted < limit → place + bits_of_all ms ≤ usable_bits len → all_fit ms ≡ false → Ruled b s x len place ms 11
+  accepted : sound b s ≡ true → x < s.tree.count → s.accepted < limit → place + bits_of_all ms ≤ usable_bits len → all_fit ms ≡ true → Ruled b s x len place ms 0
 
 -- the refusal of a request as a computation
-unfoldable pub refusalOf : ℕ → Session → ℕ → ℕ → ℕ → List Message → ℕ
-refusalOf b s x len place ms =
-    cond (sound b s) (cond (ltb x s.tree.count) (cond (ltb s.accepted limit) (cond (roomForAll len place ms) (cond (all_fit ms) 0 11) 9) 8) 7) 6
+unfoldable pub refusal_of : ℕ → Session → ℕ → ℕ → ℕ → List Message → ℕ
+refusal_of b s x len place ms =
+    cond (sound b s) (cond (ltb x s.tree.count) (cond (ltb s.accepted limit) (cond (room_for_all len place ms) (cond (all_fit ms) 0 11) 9) 8) 7) 6

@@ -22,19 +22,19 @@ combines op s x = combine op (view s) x
 unfoldable pub writes : Op ℤ → Session → ℕ → ℤ → List Message
 writes op s x z = write op (view (valued s x z)) x
 
-abbrev pub linksOf : Session → Links
-linksOf s = record { up = s.up; down = s.down }
+abbrev pub links_of : Session → Links
+links_of s = record { up = s.up; down = s.down }
 
 -- the session with these pairs, and one more request accepted
 abbrev pub relinked : Session → Links → Session
 relinked s l = record { tree = s.tree; values = s.values; up = l.up; down = l.down; accepted = s.accepted + 1 }
 
 -- the session after a combine, where every pair that points to x has number b, with or without a message, and after a write
-unfoldable pub afterCombine : Op ℤ → ℕ → Session → ℕ → Session
-afterCombine op b s x = relinked s (raised s.tree.parents s.tree.count b x (applied (combines op s x).log (linksOf s)))
+unfoldable pub after_combine : Op ℤ → ℕ → Session → ℕ → Session
+after_combine op b s x = relinked s (raised s.tree.parents s.tree.count b x (applied (combines op s x).log (links_of s)))
 
-unfoldable pub afterWrite : Op ℤ → Session → ℕ → ℤ → Session
-afterWrite op s x z = relinked (valued s x z) (applied (writes op s x z) (linksOf s))
+unfoldable pub after_write : Op ℤ → Session → ℕ → ℤ → Session
+after_write op s x z = relinked (valued s x z) (applied (writes op s x z) (links_of s))
 
 -- ---- a combine or a write
 
@@ -49,5 +49,5 @@ says op s (Combine x) = combines op s x
 says op s (Write x z) = said (pos 0) (writes op s x z)
 
 abbrev pub after : Op ℤ → ℕ → Session → Request → Session
-after op b s (Combine x) = afterCombine op b s x
-after op b s (Write x z) = afterWrite op s x z
+after op b s (Combine x) = after_combine op b s x
+after op b s (Write x z) = after_write op s x z

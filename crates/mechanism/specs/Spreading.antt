@@ -14,14 +14,14 @@ released (suc zero) u w = Release w u ∷ []
 released (suc (suc k)) u w = []
 
 module _ (op : Op ℤ) (q : View) where
-  abbrev pub addIf : Bool → ℤ → ℤ → ℤ
-  addIf true a h = op.◌⊕◌ a h
-  addIf false a h = a
+  abbrev pub add_if : Bool → ℤ → ℤ → ℤ
+  add_if true a h = op.◌⊕◌ a h
+  add_if false a h = a
 
   -- u's value, and what g says of its first k candidates in turn that are neighbours but w
   unfoldable pub total : (ℕ → ℤ) → ℕ → ℕ → ℕ → ℤ
   total g u w zero = q.value u
-  total g u w (suc k) = addIf (other q.parents u w (turn q.count u k)) (total g u w k) (g (turn q.count u k))
+  total g u w (suc k) = add_if (other q.parents u w (turn q.count u k)) (total g u w k) (g (turn q.count u k))
 
   -- what u, told z by v, sends to w: its value, and its caches for all neighbours but w; z is its cache for v
   abbrev pub carried : ℕ → ℕ → ℤ → ℕ → ℤ

@@ -9,17 +9,17 @@ use lib.IntN.{ℤ}
 use lib.Signed.{mag}
 use borrow.Author.Tests.{ne_eqb, ltb-true}
 use Rattle.twos.specs.Twos.{twos, signed, within}
-use Rattle.twos.proofs.Signs.{signed-twos}
-use Rattle.messages.specs.Records.{kind_of, width_of, head_of, recordOf, coded}
-use Rattle.messages.specs.Reading.{messageOf, decoded}
+use Rattle.twos.proofs.Signs.{signed_twos}
+use Rattle.messages.specs.Records.{kind_of, width_of, head_of, record_of, coded}
+use Rattle.messages.specs.Reading.{message_of, decoded}
 use Rattle.messages.specs.declared.Message.TheVariants.{Probe, Response, Update, Release}
-use Rattle.messages.specs.Promises.{Coded-back}
-use Rattle.messages.proofs.Widths.{value-lt}
+use Rattle.messages.specs.Promises.{CodedBack}
+use Rattle.messages.proofs.Widths.{value_lt}
 
 -- a record is short or long
-pub short-or-long : (kind : ℕ) → (width_of kind ≡ 18) ⊎ (width_of kind ≡ 58)
+pub short_or_long : (kind : ℕ) → (width_of kind ≡ 18) ⊎ (width_of kind ≡ 58)
 unfolding width_of
-short-or-long kind = go (eqb kind 1 || eqb kind 2)
+short_or_long kind = go (eqb kind 1 || eqb kind 2)
   where
     go : (b : Bool) → (◌≡◌ {A = ℕ} (cond b 58 18) 18) ⊎ (◌≡◌ {A = ℕ} (cond b 58 18) 58)
     go true = inr refl
@@ -27,22 +27,22 @@ short-or-long kind = go (eqb kind 1 || eqb kind 2)
 
 -- the message of a number, by its kind
 module _ (n a b : ℕ) (from : a ≡ n / 281474976710656 % 256) (to : b ≡ n / 1099511627776 % 256) where
-  pub is-probe : n / 72057594037927936 ≡ 0 → Probe a b ≡ decoded n
-  unfolding decoded messageOf
-  is-probe e = rw (e, from, to)
+  pub is_probe : n / 72057594037927936 ≡ 0 → Probe a b ≡ decoded n
+  unfolding decoded message_of
+  is_probe e = rw (e, from, to)
 
-  pub is-release : (n / 72057594037927936 ≡ 0 → ⊥) → (n / 72057594037927936 ≡ 1 → ⊥) → (n / 72057594037927936 ≡ 2 → ⊥) → Release a b ≡ decoded n
-  unfolding decoded messageOf
-  is-release f g h = rw (ne_eqb (n / 72057594037927936) 0 f, ne_eqb (n / 72057594037927936) 1 g, ne_eqb (n / 72057594037927936) 2 h, from, to)
+  pub is_release : (n / 72057594037927936 ≡ 0 → ⊥) → (n / 72057594037927936 ≡ 1 → ⊥) → (n / 72057594037927936 ≡ 2 → ⊥) → Release a b ≡ decoded n
+  unfolding decoded message_of
+  is_release f g h = rw (ne_eqb (n / 72057594037927936) 0 f, ne_eqb (n / 72057594037927936) 1 g, ne_eqb (n / 72057594037927936) 2 h, from, to)
 
   module _ (z : ℤ) (values : z ≡ signed 40 (n % 1099511627776)) where
-    pub is-response : n / 72057594037927936 ≡ 1 → Response a b z ≡ decoded n
-    unfolding decoded messageOf
-    is-response e = rw (e, from, to, values)
+    pub is_response : n / 72057594037927936 ≡ 1 → Response a b z ≡ decoded n
+    unfolding decoded message_of
+    is_response e = rw (e, from, to, values)
 
-    pub is-update : n / 72057594037927936 ≡ 2 → Update a b z ≡ decoded n
-    unfolding decoded messageOf
-    is-update e = rw (e, from, to, values)
+    pub is_update : n / 72057594037927936 ≡ 2 → Update a b z ≡ decoded n
+    unfolding decoded message_of
+    is_update e = rw (e, from, to, values)
 
 -- the parts of a number n that has v behind the head of a record
 record Parts (n kind a b v : ℕ) : Type 0 where
@@ -54,12 +54,12 @@ record Parts (n kind a b v : ℕ) : Type 0 where
 parts : (n kind a b v : ℕ) → n ≡ head_of kind a b * 2 ^ 40 + v → a < 256 → b < 256 → v < 2 ^ 40 → Parts n kind a b v
 parts n kind a b v e ha hb hv = record { kinds = omega arith; senders = omega arith; receivers = omega arith; values = omega arith }
 
-value-back : (z : ℤ) → within 40 z ≡ true → signed 40 (twos 40 z) ≡ z
-value-back z h = signed-twos 40 (omega arith) z (ltb-true (mag z) (2 ^ 39) h)
+value_back : (z : ℤ) → within 40 z ≡ true → signed 40 (twos 40 z) ≡ z
+value_back z h = signed_twos 40 (omega arith) z (ltb-true (mag z) (2 ^ 39) h)
 
-pub coded-back : Coded-back
-unfolding decoded coded recordOf kind_of width_of messageOf
-coded-back (Probe a b) (ha, hb, h) = let p = parts (head_of 0 a b * 2 ^ 40) 0 a b 0 (omega arith) ha hb (omega arith) in rw (p.kinds, p.senders, p.receivers)
-coded-back (Response a b z) (ha, hb, h) = let p = parts ((head_of 1 a b * 2 ^ 40 + twos 40 z) * 1) 1 a b (twos 40 z) (omega arith) ha hb (value-lt z h) in rw (p.kinds, p.senders, p.receivers, p.values, value-back z h)
-coded-back (Update a b z) (ha, hb, h) = let p = parts ((head_of 2 a b * 2 ^ 40 + twos 40 z) * 1) 2 a b (twos 40 z) (omega arith) ha hb (value-lt z h) in rw (p.kinds, p.senders, p.receivers, p.values, value-back z h)
-coded-back (Release a b) (ha, hb, h) = let p = parts (head_of 3 a b * 2 ^ 40) 3 a b 0 (omega arith) ha hb (omega arith) in rw (p.kinds, p.senders, p.receivers)
+pub coded_back : CodedBack
+unfolding decoded coded record_of kind_of width_of message_of
+coded_back (Probe a b) (ha, hb, h) = let p = parts (head_of 0 a b * 2 ^ 40) 0 a b 0 (omega arith) ha hb (omega arith) in rw (p.kinds, p.senders, p.receivers)
+coded_back (Response a b z) (ha, hb, h) = let p = parts ((head_of 1 a b * 2 ^ 40 + twos 40 z) * 1) 1 a b (twos 40 z) (omega arith) ha hb (value_lt z h) in rw (p.kinds, p.senders, p.receivers, p.values, value_back z h)
+coded_back (Update a b z) (ha, hb, h) = let p = parts ((head_of 2 a b * 2 ^ 40 + twos 40 z) * 1) 2 a b (twos 40 z) (omega arith) ha hb (value_lt z h) in rw (p.kinds, p.senders, p.receivers, p.values, value_back z h)
+coded_back (Release a b) (ha, hb, h) = let p = parts (head_of 3 a b * 2 ^ 40) 3 a b 0 (omega arith) ha hb (omega arith) in rw (p.kinds, p.senders, p.receivers)

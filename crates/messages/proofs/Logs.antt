@@ -7,60 +7,60 @@ use Prim.Native.Nat.{ℕ, ◌+◌, ◌≤◌, ◌<◌}
 use native.Mathlib.Omega.{arith}
 use lib.ListN.{length}
 use Rattle.fields.specs.Bits.{bit}
-use Rattle.fields.specs.Fields.{field, putField}
-use Rattle.fields.specs.Usable.{usableBits}
-use Rattle.fields.proofs.Kept.{length-kept, outside_kept, same-field}
+use Rattle.fields.specs.Fields.{field, put_field}
+use Rattle.fields.specs.Usable.{usable_bits}
+use Rattle.fields.proofs.Kept.{length_kept, outside_kept, same_field}
 use Rattle.fields.proofs.ReadBack.{read_back}
-use Rattle.messages.specs.Records.{fits, bits_of, recordOf, Sized}
-use Rattle.messages.specs.Writing.{room, logAfter, logged, bitsOfAll}
+use Rattle.messages.specs.Records.{fits, bits_of, record_of, Sized}
+use Rattle.messages.specs.Writing.{room, log_after, logged, bits_of_all}
 use Rattle.messages.specs.Reading.{told}
-use Rattle.messages.specs.Promises.{Log-length-kept, Log-outside-kept, Log-reads-back}
+use Rattle.messages.specs.Promises.{LogLengthKept, LogOutsideKept, LogReadsBack}
 use Rattle.messages.specs.declared.Message.{Message}
-use Rattle.messages.proofs.Widths.{record-fits}
-use Rattle.messages.proofs.Entries.{entry-end, found}
-use Rattle.messages.proofs.Answers.{log-written}
+use Rattle.messages.proofs.Widths.{record_fits}
+use Rattle.messages.proofs.Entries.{entry_end, found}
+use Rattle.messages.proofs.Answers.{log_written}
 
 -- what holds of a log as it was and as the record leaves it holds after the message
-kept : (s : List ℕ) (place : ℕ) (m : Message) (P : List ℕ → Type 0) → P s → P (putField s place (bits_of m) (recordOf m)) → P (logAfter s place m)
-unfolding logAfter
+kept : (s : List ℕ) (place : ℕ) (m : Message) (P : List ℕ → Type 0) → P s → P (put_field s place (bits_of m) (record_of m)) → P (log_after s place m)
+unfolding log_after
 kept s place m P old new = go (room (length s) place m && fits m)
   where
-    go : (b : Bool) → P (cond b (putField s place (bits_of m) (recordOf m)) s)
+    go : (b : Bool) → P (cond b (put_field s place (bits_of m) (record_of m)) s)
     go true = new
     go false = old
 
-after-length : (s : List ℕ) (place : ℕ) (m : Message) → length (logAfter s place m) ≡ length s
-after-length s place m = kept s place m (λ t. length t ≡ length s) refl (length-kept s place (bits_of m) (recordOf m))
+after_length : (s : List ℕ) (place : ℕ) (m : Message) → length (log_after s place m) ≡ length s
+after_length s place m = kept s place m (λ t. length t ≡ length s) refl (length_kept s place (bits_of m) (record_of m))
 
-pub log-length-kept : Log-length-kept
+pub log_length_kept : LogLengthKept
 unfolding logged
-log-length-kept s place [] = refl
-log-length-kept s place (m ∷ ms) = log-length-kept (logAfter s place m) (place + bits_of m) ms ∙ after-length s place m
+log_length_kept s place [] = refl
+log_length_kept s place (m ∷ ms) = log_length_kept (log_after s place m) (place + bits_of m) ms ∙ after_length s place m
 
-pub log-outside-kept : Log-outside-kept
-unfolding logged bitsOfAll
-log-outside-kept s place [] k o = refl
-log-outside-kept s place (m ∷ ms) k o =
-    log-outside-kept (logAfter s place m) (place + bits_of m) ms k (⊎_elim (λ (h : k < place). inl (omega arith)) (λ (h : place + (bits_of m + bitsOfAll ms) ≤ k). inr (omega arith)) o)
-    ∙ kept s place m (λ t. bit t k ≡ bit s k) refl (outside_kept s place (bits_of m) (recordOf m) k (⊎_elim (λ h. inl h) (λ (h : place + (bits_of m + bitsOfAll ms) ≤ k). inr (omega arith)) o))
+pub log_outside_kept : LogOutsideKept
+unfolding logged bits_of_all
+log_outside_kept s place [] k o = refl
+log_outside_kept s place (m ∷ ms) k o =
+    log_outside_kept (log_after s place m) (place + bits_of m) ms k (⊎_elim (λ (h : k < place). inl (omega arith)) (λ (h : place + (bits_of m + bits_of_all ms) ≤ k). inr (omega arith)) o)
+    ∙ kept s place m (λ t. bit t k ≡ bit s k) refl (outside_kept s place (bits_of m) (record_of m) k (⊎_elim (λ h. inl h) (λ (h : place + (bits_of m + bits_of_all ms) ≤ k). inr (omega arith)) o))
 
 -- the first record stands, whatever is written behind it
-first-stands : (s : List ℕ) (place : ℕ) (m : Message) (ms : List Message) → Sized m → place + bits_of m ≤ usableBits (length s)
-    → field (logged (logAfter s place m) (place + bits_of m) ms) place (bits_of m) ≡ recordOf m
-first-stands s place m ms ok h =
-    let t = logAfter s place m in
-    same-field (logged t (place + bits_of m) ms) t place (bits_of m) (λ k a b. log-outside-kept t (place + bits_of m) ms k (inl b))
-    ∙ rw (log-written s place m h ok.2) (read_back s place (bits_of m) (recordOf m) (record-fits m ok) (omega arith))
+first_stands : (s : List ℕ) (place : ℕ) (m : Message) (ms : List Message) → Sized m → place + bits_of m ≤ usable_bits (length s)
+    → field (logged (log_after s place m) (place + bits_of m) ms) place (bits_of m) ≡ record_of m
+first_stands s place m ms ok h =
+    let t = log_after s place m in
+    same_field (logged t (place + bits_of m) ms) t place (bits_of m) (λ k a b. log_outside_kept t (place + bits_of m) ms k (inl b))
+    ∙ rw (log_written s place m h ok.2) (read_back s place (bits_of m) (record_of m) (record_fits m ok) (omega arith))
 
-pub log-reads-back : Log-reads-back
-unfolding logged bitsOfAll
-log-reads-back s place [] ok h = ap told (entry-end s place (place + 0) h (omega arith))
-log-reads-back s place (m ∷ ms) (ok, oks) h =
-    let t = logAfter s place m in
+pub log_reads_back : LogReadsBack
+unfolding logged bits_of_all
+log_reads_back s place [] ok h = ap told (entry_end s place (place + 0) h (omega arith))
+log_reads_back s place (m ∷ ms) (ok, oks) h =
+    let t = log_after s place m in
     let a = logged t (place + bits_of m) ms in
-    let e : place + (bits_of m + bitsOfAll ms) ≡ place + bits_of m + bitsOfAll ms = omega arith in
-    let i : place + (bits_of m + bitsOfAll ms) ≤ usableBits (length a) = rw (log-length-kept s place (m ∷ ms)) h in (
+    let e : place + (bits_of m + bits_of_all ms) ≡ place + bits_of m + bits_of_all ms = omega arith in
+    let i : place + (bits_of m + bits_of_all ms) ≤ usable_bits (length a) = rw (log_length_kept s place (m ∷ ms)) h in (
       place + bits_of m,
-      ap told (found a place (place + (bits_of m + bitsOfAll ms)) m i (omega arith) ok (first-stands s place m ms ok (omega arith))),
-      rw e (log-reads-back t (place + bits_of m) ms oks (rw (← e, after-length s place m) h)),
+      ap told (found a place (place + (bits_of m + bits_of_all ms)) m i (omega arith) ok (first_stands s place m ms ok (omega arith))),
+      rw e (log_reads_back t (place + bits_of m) ms oks (rw (← e, after_length s place m) h)),
     )

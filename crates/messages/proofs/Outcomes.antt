@@ -17,20 +17,20 @@ use Rattle.messages.proofs.read.Reads as read
 use Rattle.messages.specs.contracts.reader.LogReader.new as reader-new
 use Rattle.messages.specs.contracts.reader.LogReader.read as reader-read
 
-pub bits-once : OneResult bits.Post
-bits-once κ a x y s t p q = p ∙ sym q
+pub bits_once : OneResult bits.Post
+bits_once κ a x y s t p q = p ∙ sym q
 
-pub code-once : OneResult code.Post
-code-once κ a x y s t p q = p ∙ sym q
+pub code_once : OneResult code.Post
+code_once κ a x y s t p q = p ∙ sym q
 
-pub decode-once : OneResult decode.Post
-decode-once κ a x y s t p q = p ∙ sym q
+pub decode_once : OneResult decode.Post
+decode_once κ a x y s t p q = p ∙ sym q
 
-pub write-once : OneOutcome write.Post (λ κ s. s.0.now)
-write-once κ a x y s t p q = (p.0 ∙ sym q.0, p.1 ∙ sym q.1)
+pub write_once : OneOutcome write.Post (λ κ s. s.0.now)
+write_once κ a x y s t p q = (p.0 ∙ sym q.0, p.1 ∙ sym q.1)
 
-pub read-once : OneResult read.Post
-read-once κ a x y s t p q = p ∙ sym q
+pub read_once : OneResult read.Post
+read_once κ a x y s t p q = p ∙ sym q
 
 -- ---- the reader's own functions
 
@@ -38,22 +38,22 @@ read-once κ a x y s t p q = p ∙ sym q
 abbrev Reading : ((w : World) → Pr w) → Type 2
 Reading P = Read (λ w. emp w.𝓤) no_know P
 
-abbrev new-reading : (κ : Lfts 1) (a : Args reader-new.signature κ) (r : Res reader-new.signature κ) (s : AtExit reader-new.ended κ)
+abbrev new_reading : (κ : Lfts 1) (a : Args reader-new.signature κ) (r : Res reader-new.signature κ) (s : AtExit reader-new.ended κ)
     → Reading (λ w. (reader-new.clauses w.𝓛 w.𝓜.mem w.𝓡.run κ a).ensures tt r s)
-new-reading κ a r s = all_models _ (λ w. r_last _) (λ w. refl) (λ w. refl) (λ w. refl)
+new_reading κ a r s = all_models _ (λ w. r_last _) (λ w. refl) (λ w. refl) (λ w. refl)
 
-abbrev read-reading : (κ : Lfts 2) (a : Args reader-read.signature κ) (e : Res reader-read.signature κ) (s : AtExit reader-read.ended κ)
+abbrev read_reading : (κ : Lfts 2) (a : Args reader-read.signature κ) (e : Res reader-read.signature κ) (s : AtExit reader-read.ended κ)
     → Reading (λ w. (reader-read.clauses w.𝓛 w.𝓜.mem w.𝓡.run κ a).ensures tt e s)
-read-reading κ a e s = all_models _ (λ w. r_last _) (λ w. refl) (λ w. refl) (λ w. refl)
+read_reading κ a e s = all_models _ (λ w. r_last _) (λ w. refl) (λ w. refl) (λ w. refl)
 
 -- log and place are all of a reader
-same-reader : (a b : LogReader) → a.log ≡ b.log → a.place ≡ b.place → a ≡ b
-same-reader a b p q = λ i. record { log = p i; place = q i }
+same_reader : (a b : LogReader) → a.log ≡ b.log → a.place ≡ b.place → a ≡ b
+same_reader a b p q = λ i. record { log = p i; place = q i }
 
-pub reader-new-once : OneResult (λ κ a r s. AllOf (new-reading κ a r s).owes)
-reader-new-once κ a x y s t p q = same-reader x y (p.0 ∙ sym q.0) (p.1 ∙ sym q.1)
+pub reader_new_once : OneResult (λ κ a r s. AllOf (new_reading κ a r s).owes)
+reader_new_once κ a x y s t p q = same_reader x y (p.0 ∙ sym q.0) (p.1 ∙ sym q.1)
 
-pub reader-read-once : OneOutcome (λ κ a e s. AllOf (read-reading κ a e s).owes) (λ κ s. s.0.now)
-reader-read-once κ a x y s t p q =
+pub reader_read_once : OneOutcome (λ κ a e s. AllOf (read_reading κ a e s).owes) (λ κ s. s.0.now)
+reader_read_once κ a x y s t p q =
     let e : x ≡ y = p.0 ∙ sym q.0 in
-    (e, same-reader s.0.now t.0.now (p.1 ∙ sym q.1) (cc (p.2, q.2)))
+    (e, same_reader s.0.now t.0.now (p.1 ∙ sym q.1) (cc (p.2, q.2)))

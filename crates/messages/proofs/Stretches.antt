@@ -4,21 +4,21 @@ use mathlib.Core.List.{List, [], ◌∷◌, ◌++◌}
 use Prim.Native.Nat.{ℕ, ◌+◌}
 use native.Mathlib.Omega.{arith}
 use Rattle.messages.specs.Records.{AllSized, bits_of}
-use Rattle.messages.specs.Writing.{logAfter, logged, bitsOfAll}
+use Rattle.messages.specs.Writing.{log_after, logged, bits_of_all}
 use Rattle.messages.specs.declared.Message.{Message}
 
-pub bits-append : (ms ns : List Message) → bitsOfAll (ms ++ ns) ≡ bitsOfAll ms + bitsOfAll ns
-unfolding bitsOfAll
-bits-append [] ns = omega arith
-bits-append (m ∷ ms) ns = omega (arith, bits-append ms ns)
+pub bits_append : (ms ns : List Message) → bits_of_all (ms ++ ns) ≡ bits_of_all ms + bits_of_all ns
+unfolding bits_of_all
+bits_append [] ns = omega arith
+bits_append (m ∷ ms) ns = omega (arith, bits_append ms ns)
 
-pub sized-append : (ms ns : List Message) → AllSized ms → AllSized ns → AllSized (ms ++ ns)
-sized-append [] ns a b = b
-sized-append (m ∷ ms) ns a b = (a.0, sized-append ms ns a.1 b)
+pub sized_append : (ms ns : List Message) → AllSized ms → AllSized ns → AllSized (ms ++ ns)
+sized_append [] ns a b = b
+sized_append (m ∷ ms) ns a b = (a.0, sized_append ms ns a.1 b)
 
-pub logged-append : (log : List ℕ) (place : ℕ) (ms ns : List Message) → logged (logged log place ms) (place + bitsOfAll ms) ns ≡ logged log place (ms ++ ns)
-unfolding logged bitsOfAll
-logged-append log place [] ns = ap (λ (k : ℕ). logged log k ns) (omega arith)
-logged-append log place (m ∷ ms) ns =
-    let e : place + (bits_of m + bitsOfAll ms) ≡ place + bits_of m + bitsOfAll ms = omega arith in
-    rw e (logged-append (logAfter log place m) (place + bits_of m) ms ns)
+pub logged_append : (log : List ℕ) (place : ℕ) (ms ns : List Message) → logged (logged log place ms) (place + bits_of_all ms) ns ≡ logged log place (ms ++ ns)
+unfolding logged bits_of_all
+logged_append log place [] ns = ap (λ (k : ℕ). logged log k ns) (omega arith)
+logged_append log place (m ∷ ms) ns =
+    let e : place + (bits_of m + bits_of_all ms) ≡ place + bits_of m + bits_of_all ms = omega arith in
+    rw e (logged_append (log_after log place m) (place + bits_of m) ms ns)

@@ -12,17 +12,17 @@ kind_of (Response a b z) = 1
 kind_of (Update a b z) = 2
 kind_of (Release a b) = 3
 
-abbrev pub senderOf : Message → ℕ
-senderOf (Probe a b) = a
-senderOf (Response a b z) = a
-senderOf (Update a b z) = a
-senderOf (Release a b) = a
+abbrev pub sender_of : Message → ℕ
+sender_of (Probe a b) = a
+sender_of (Response a b z) = a
+sender_of (Update a b z) = a
+sender_of (Release a b) = a
 
-abbrev pub receiverOf : Message → ℕ
-receiverOf (Probe a b) = b
-receiverOf (Response a b z) = b
-receiverOf (Update a b z) = b
-receiverOf (Release a b) = b
+abbrev pub receiver_of : Message → ℕ
+receiver_of (Probe a b) = b
+receiver_of (Response a b z) = b
+receiver_of (Update a b z) = b
+receiver_of (Release a b) = b
 
 -- a message's value, if it has one, fits 40 bits
 abbrev pub fits : Message → Bool
@@ -33,7 +33,7 @@ fits (Release a b) = true
 
 -- a message's sender and receiver are bytes, and its value fits
 abbrev pub Sized : Message → Type 0
-Sized m = (senderOf m < 256) × (receiverOf m < 256) × (fits m ≡ true)
+Sized m = (sender_of m < 256) × (receiver_of m < 256) × (fits m ≡ true)
 
 abbrev pub AllSized : List Message → Type 0
 AllSized [] = Unit
@@ -50,21 +50,21 @@ bits_of m = width_of (kind_of m)
 abbrev pub head_of : ℕ → ℕ → ℕ → ℕ
 head_of kind a b = (kind * 2 ^ 8 + a) * 2 ^ 8 + b
 
-unfoldable pub recordOf : Message → ℕ
-recordOf (Probe a b) = head_of 0 a b
-recordOf (Response a b z) = head_of 1 a b * 2 ^ 40 + twos 40 z
-recordOf (Update a b z) = head_of 2 a b * 2 ^ 40 + twos 40 z
-recordOf (Release a b) = head_of 3 a b
+unfoldable pub record_of : Message → ℕ
+record_of (Probe a b) = head_of 0 a b
+record_of (Response a b z) = head_of 1 a b * 2 ^ 40 + twos 40 z
+record_of (Update a b z) = head_of 2 a b * 2 ^ 40 + twos 40 z
+record_of (Release a b) = head_of 3 a b
 
 -- A message as a number of 58 bits: its record, with zero bits behind it.
 unfoldable pub coded : Message → ℕ
-coded m = recordOf m * 2 ^ (58 - bits_of m)
+coded m = record_of m * 2 ^ (58 - bits_of m)
 
 -- what is answered for a message: its number, where its value fits
-unfoldable pub codedOf : Message → Coded
-codedOf m = cond (fits m) (Number (coded m)) Misfit
+unfoldable pub coded_of : Message → Coded
+coded_of m = cond (fits m) (Number (coded m)) Misfit
 
 -- document 01's number for what was answered, and the number of the message: 11 where its value does not fit 40 bits
-abbrev pub toldCoded : Coded → ℕ × ℕ
-toldCoded (Number n) = (0, n)
-toldCoded Misfit = (11, 0)
+abbrev pub told_coded : Coded → ℕ × ℕ
+told_coded (Number n) = (0, n)
+told_coded Misfit = (11, 0)

@@ -6,8 +6,8 @@ mod reader; // the log's reader that carries the log and its place along
 mod record; // a message as a record of bits
 
 ghost use Rattle.std.specs.Prelude.{◌≡◌, length};
-ghost use Rattle.messages.specs.Records.{bits_of, codedOf};
-ghost use Rattle.messages.specs.Writing.{recordedOf, logAfter};
+ghost use Rattle.messages.specs.Records.{bits_of, coded_of};
+ghost use Rattle.messages.specs.Writing.{recorded_of, log_after};
 ghost use Rattle.messages.specs.Reading.{decoded, entry_at};
 
 pub use reader::LogReader;
@@ -63,7 +63,7 @@ pub fn bits(message: Message) -> usize
 
 // A message as a number of 58 bits: its record, with zero bits behind it.
 pub fn code(message: Message) -> Coded
-    ensures { result ≡ codedOf message }
+    ensures { result ≡ coded_of message }
 {
     if record::holds(message) {
         let number = record::number(message);
@@ -94,7 +94,7 @@ pub fn decode(number: u64) -> Message
 
 // Writes the message's record from place on. Where the message is refused, nothing is changed.
 pub fn write(log: &mut [u8], place: usize, message: Message) -> Recorded
-    ensures { (result ≡ recordedOf (length log.old) place message) × (log.new ≡ logAfter log.old place message) }
+    ensures { (result ≡ recorded_of (length log.old) place message) × (log.new ≡ log_after log.old place message) }
 {
     let width = record::width(message);
     if record::lies(log.len(), place, width) {

@@ -1,6 +1,6 @@
 // The log's reader that carries the lent log and its bit place along from message to message.
 ghost use Rattle.std.specs.Prelude.{◌≡◌};
-ghost use Rattle.messages.specs.Reading.{entry_at, placeAfter};
+ghost use Rattle.messages.specs.Reading.{entry_at, place_after};
 
 use crate::Entry;
 
@@ -22,7 +22,7 @@ impl<'a> LogReader<'a> {
     // What stands at the reader's place, before end. The reader is past it if it is a message, and
     // stays where it is if not.
     pub fn read(&mut self, end: usize) -> Entry
-        ensures { (result ≡ entry_at self.old.log.now self.old.place end) × (self.new.log ≡ self.old.log) × (self.new.place ≡ placeAfter result self.old.place) }
+        ensures { (result ≡ entry_at self.old.log.now self.old.place end) × (self.new.log ≡ self.old.log) × (self.new.place ≡ place_after result self.old.place) }
     {
         let e = crate::read(self.log, self.place, end);
         self.place = place_after(e, self.place);
@@ -32,7 +32,7 @@ impl<'a> LogReader<'a> {
 
 // The place after what was read: past a message, else where it was.
 pub fn place_after(e: Entry, place: usize) -> usize
-    ensures { result ≡ placeAfter e place }
+    ensures { result ≡ place_after e place }
 {
     match e {
         Entry::Read(_, next) => next,

@@ -1,11 +1,11 @@
 // A message as a record of bits.
 ghost use Rattle.std.specs.Prelude.{◌≡◌, true, ◌⊎◌, ◌+◌, ◌-◌, ◌*◌, ◌^◌, ◌≤◌, ◌<◌, leb, length};
 ghost use Rattle.fields.specs.Fields.{field};
-ghost use Rattle.fields.specs.Usable.{usableBits};
+ghost use Rattle.fields.specs.Usable.{usable_bits};
 ghost use Rattle.twos.specs.Twos.{twos, within};
-ghost use Rattle.twos.specs.Twos.{signed as Twos·signed};
-ghost use Rattle.messages.specs.Records.{width_of, kind_of, bits_of, head_of, recordOf, fits};
-ghost use Rattle.messages.specs.Reading.{messageAt};
+ghost use Rattle.twos.specs.Twos;
+ghost use Rattle.messages.specs.Records.{width_of, kind_of, bits_of, head_of, record_of, fits};
+ghost use Rattle.messages.specs.Reading.{message_at};
 
 use crate::Message;
 
@@ -43,7 +43,7 @@ pub fn kind(message: Message) -> u64
 
 // Whether a record of width bits at place lies in the usable log of len bytes.
 pub fn lies(len: usize, place: usize, width: usize) -> bool
-    ensures { result ≡ leb (place + width) (usableBits len) }
+    ensures { result ≡ leb (place + width) (usable_bits len) }
 {
     let end = fields::usable_bits(len);
     if end < place {
@@ -67,7 +67,7 @@ pub fn holds(message: Message) -> bool
 // The record of a message whose value fits, as one number.
 pub fn number(message: Message) -> u64
     requires { fits message ≡ true }
-    ensures { (result ≡ recordOf message) × (result < 2 ^ bits_of message) }
+    ensures { (result ≡ record_of message) × (result < 2 ^ bits_of message) }
 {
     match message {
         Message::Probe(from, to) => head(0, from, to),
@@ -90,8 +90,8 @@ pub fn padded(width: usize, number: u64) -> u64
 
 // The message of a kind whose record stands at place.
 pub fn message(log: &[u8], place: usize, kind: u64) -> Message
-    requires { (kind ≡ field log.now place 2) × (place + width_of kind ≤ usableBits (length log.now)) }
-    ensures { result ≡ messageAt log.now place kind }
+    requires { (kind ≡ field log.now place 2) × (place + width_of kind ≤ usable_bits (length log.now)) }
+    ensures { result ≡ message_at log.now place kind }
 {
     let from = node(log, place + 2);
     let to = node(log, place + 10);
@@ -109,7 +109,7 @@ pub fn message(log: &[u8], place: usize, kind: u64) -> Message
 
 // The number in width bits of the usable log.
 pub fn part(log: &[u8], place: usize, width: usize) -> u64
-    requires { (width ≤ 64) × (place + width ≤ usableBits (length log.now)) }
+    requires { (width ≤ 64) × (place + width ≤ usable_bits (length log.now)) }
     ensures { result ≡ field log.now place width }
 {
     match fields::get(log, place, width) {
@@ -120,7 +120,7 @@ pub fn part(log: &[u8], place: usize, width: usize) -> u64
 
 // A node's number in the log.
 fn node(log: &[u8], place: usize) -> u8
-    requires { place + 8 ≤ usableBits (length log.now) }
+    requires { place + 8 ≤ usable_bits (length log.now) }
     ensures { result ≡ field log.now place 8 }
 {
     part(log, place, 8) as u8
@@ -128,8 +128,8 @@ fn node(log: &[u8], place: usize) -> u8
 
 // A value in the log.
 fn value(log: &[u8], place: usize) -> i64
-    requires { place + 40 ≤ usableBits (length log.now) }
-    ensures { result ≡ Twos·signed 40 (field log.now place 40) }
+    requires { place + 40 ≤ usable_bits (length log.now) }
+    ensures { result ≡ Twos.signed 40 (field log.now place 40) }
 {
     signed(part(log, place, 40))
 }
@@ -137,7 +137,7 @@ fn value(log: &[u8], place: usize) -> i64
 // The value that 40 bits stand for.
 pub fn signed(number: u64) -> i64
     requires { number < 2 ^ 40 }
-    ensures { result ≡ Twos·signed 40 number }
+    ensures { result ≡ Twos.signed 40 number }
 {
     match twos::decode(number, 40) {
         twos::Decoded::Value(z) => z,

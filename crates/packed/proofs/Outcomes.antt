@@ -3,5 +3,5 @@ use mathlib.Core.Path.{sym, ◌∙◌}
 use Rattle.fields.specs.Outcomes.{OneResult}
 use Rattle.packed.proofs.ends.Reads as ends
 
-pub ends-once : OneResult ends.Post
-ends-once κ a x y s t p q = p ∙ sym q
+pub ends_once : OneResult ends.Post
+ends_once κ a x y s t p q = p ∙ sym q

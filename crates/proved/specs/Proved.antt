@@ -1,18 +1,18 @@
 -- Document 01's cases marked P, in one table: what is handed in, and what comes of it. Bytes are hexadecimal.
 use Rattle.std.specs.Prelude.{◌≡◌, List, [], ◌∷◌, ◌++◌, ℕ, ◌-◌, ℤ, pos, negsuc, length, replicate, take}
-use Rattle.aggregate.specs.Serving.{servedOf, logOf}
-use Rattle.aggregate.specs.Running.{ranOf, answersOf, runLogOf}
+use Rattle.aggregate.specs.Serving.{served_of, log_of}
+use Rattle.aggregate.specs.Running.{ran_of, answers_of, run_log_of}
 use Rattle.aggregate.specs.declared.Outcome.{Outcome as Answer}
 use Rattle.aggregate.specs.declared.Totals.{Totals}
 use Rattle.aggregate.specs.declared.Ran.{Ran}
 use Rattle.messages.specs.Records.{bits_of}
-use Rattle.messages.specs.Reading.{entry_at, messagesFrom}
-use Rattle.messages.specs.Writing.{logAfter}
+use Rattle.messages.specs.Reading.{entry_at, messages_from}
+use Rattle.messages.specs.Writing.{log_after}
 use Rattle.messages.specs.declared.Message.{Message}
 use Rattle.messages.specs.declared.Message.TheVariants.{Probe, Response, Update, Release}
 use Rattle.messages.specs.declared.Entry.{Entry}
 use Rattle.messages.specs.declared.Entry.TheVariants.{Read}
-use Rattle.requests.specs.Reading.{requestsOf, judgedOf}
+use Rattle.requests.specs.Reading.{requests_of, judged_of}
 use Rattle.requests.specs.Reading.{refused as list-refused}
 use Rattle.requests.specs.declared.Judged.{Judged}
 use Rattle.requests.specs.declared.Request.{Request}
@@ -44,10 +44,10 @@ pub record Reply : Type 0 where
 
 -- what is held at the end of each pair, at the child's place: lease numbers and messages to the parent, then to the child
 pub record Holding : Type 0 where
-  pub up-leases : List ℕ
-  pub up-messages : List ℕ
-  pub down-leases : List ℕ
-  pub down-messages : List ℕ
+  pub up_leases : List ℕ
+  pub up_messages : List ℕ
+  pub down_leases : List ℕ
+  pub down_messages : List ℕ
 
 pub data Outcome : Type 0 where
   reads : Reading → Outcome
@@ -64,39 +64,39 @@ empty n = replicate n 0
 abbrev pub replied : Session → Request → Reply
 replied s r =
     record {
-      answer = (servedOf s r 64 0).outcome;
-      logged = messagesFrom (servedOf s r 64 0).outcome.next (logOf s r (empty 64) 0) 0 (servedOf s r 64 0).outcome.next;
+      answer = (served_of s r 64 0).outcome;
+      logged = messages_from (served_of s r 64 0).outcome.next (log_of s r (empty 64) 0) 0 (served_of s r 64 0).outcome.next;
     }
 
 unfoldable pub replies : Session → List Request → List Reply
 replies s [] = []
-replies s (r ∷ rs) = replied s r ∷ replies (servedOf s r 64 0).session rs
+replies s (r ∷ rs) = replied s r ∷ replies (served_of s r 64 0).session rs
 
 unfoldable pub end : Session → List Request → Session
 end s [] = s
-end s (r ∷ rs) = end (servedOf s r 64 0).session rs
+end s (r ∷ rs) = end (served_of s r 64 0).session rs
 
 abbrev pub held : Session → Holding
 held s =
     record {
-      up-leases = take s.tree.count s.up.lease;
-      up-messages = take s.tree.count s.up.messages;
-      down-leases = take s.tree.count s.down.lease;
-      down-messages = take s.tree.count s.down.messages;
+      up_leases = take s.tree.count s.up.lease;
+      up_messages = take s.tree.count s.up.messages;
+      down_leases = take s.tree.count s.down.lease;
+      down_messages = take s.tree.count s.down.messages;
     }
 
 -- what a run answers, its answer places, the messages that are read from the log that it leaves, and what is held at the end
 abbrev pub ran : Ran → List ℤ → List ℕ → Outcome
-ran r answers left = runs r.refusal r.index r.totals answers (messagesFrom r.totals.next left 0 r.totals.next) (held r.session)
+ran r answers left = runs r.refusal r.index r.totals answers (messages_from r.totals.next left 0 r.totals.next) (held r.session)
 
 abbrev pub outcome : Input → Outcome
 outcome (table s) = reads (reading_of s)
-outcome (list s) = judges (judgedOf s)
-outcome (requests s) = asks (requestsOf s)
-outcome (log n m) = logs (logAfter (empty n) 0 m) (entry_at (logAfter (empty n) 0 m) 0 (bits_of m))
+outcome (list s) = judges (judged_of s)
+outcome (requests s) = asks (requests_of s)
+outcome (log n m) = logs (log_after (empty n) 0 m) (entry_at (log_after (empty n) 0 m) 0 (bits_of m))
 outcome (session t rs) = serves (replies (fresh_of t) rs) (held (end (fresh_of t) rs))
 outcome (run t bytes places n) =
-    ran (ranOf (fresh_of t) bytes (replicate places (pos 0)) (empty n) 0) (answersOf (fresh_of t) bytes (replicate places (pos 0)) (empty n) 0) (runLogOf (fresh_of t) bytes (replicate places (pos 0)) (empty n) 0)
+    ran (ran_of (fresh_of t) bytes (replicate places (pos 0)) (empty n) 0) (answers_of (fresh_of t) bytes (replicate places (pos 0)) (empty n) 0) (run_log_of (fresh_of t) bytes (replicate places (pos 0)) (empty n) 0)
 
 -- an accepted request: its answer, its messages, the next place
 abbrev pub answered : ℤ → List Message → ℕ → Reply
@@ -111,8 +111,8 @@ pub record Case : Type 0 where
   pub output : Outcome
 
 -- the bytes of the path's list
-abbrev pub path-list : List ℕ
-path-list = 0x00 ∷ 0x30 ∷ 0x02 ∷ 0x04 ∷ 0x00 ∷ 0x00 ∷ 0x00 ∷ 0x0A ∷ 0x00 ∷ 0x81 ∷ 0x00 ∷ 0x00 ∷ 0x00 ∷ 0x03 ∷ 0xC0 ∷ 0x80 ∷ 0x00 ∷ 0x00 ∷ 0x02 ∷ 0x40 ∷ 0x00 ∷ []
+abbrev pub path_list : List ℕ
+path_list = 0x00 ∷ 0x30 ∷ 0x02 ∷ 0x04 ∷ 0x00 ∷ 0x00 ∷ 0x00 ∷ 0x0A ∷ 0x00 ∷ 0x81 ∷ 0x00 ∷ 0x00 ∷ 0x00 ∷ 0x03 ∷ 0xC0 ∷ 0x80 ∷ 0x00 ∷ 0x00 ∷ 0x02 ∷ 0x40 ∷ 0x00 ∷ []
 
 -- the star of four: combine at 1, write 4 at 2, combine at 0, write 1 at 3
 abbrev pub star : Case
@@ -126,7 +126,7 @@ star =
           ∷ answered (pos 4) (Probe 0 1 ∷ Response 1 0 (pos 0) ∷ []) 76
           ∷ answered (pos 0) (Update 3 0 (pos 1) ∷ Update 0 1 (pos 5) ∷ Release 1 0 ∷ []) 134
           ∷ [])
-          (record { up-leases = 0 ∷ 2 ∷ 2 ∷ 1 ∷ []; up-messages = 0 ∷ 2 ∷ 3 ∷ 3 ∷ []; down-leases = 0 ∷ 0 ∷ 0 ∷ 0 ∷ []; down-messages = 0 ∷ 5 ∷ 0 ∷ 0 ∷ [] });
+          (record { up_leases = 0 ∷ 2 ∷ 2 ∷ 1 ∷ []; up_messages = 0 ∷ 2 ∷ 3 ∷ 3 ∷ []; down_leases = 0 ∷ 0 ∷ 0 ∷ 0 ∷ []; down_messages = 0 ∷ 5 ∷ 0 ∷ 0 ∷ [] });
     }
 
 -- the path: combine at 0, write 5 at 2, combine at 0, write 7 and 9 at 2, combine at 0
@@ -143,14 +143,14 @@ path =
           ∷ answered (pos 0) (Update 2 1 (pos 9) ∷ Update 1 0 (pos 9) ∷ Release 0 1 ∷ Release 1 2 ∷ []) 152
           ∷ answered (pos 9) (Probe 0 1 ∷ Probe 1 2 ∷ Response 2 1 (pos 9) ∷ Response 1 0 (pos 9) ∷ []) 152
           ∷ [])
-          (record { up-leases = 0 ∷ 2 ∷ 2 ∷ []; up-messages = 0 ∷ 8 ∷ 8 ∷ []; down-leases = 0 ∷ 0 ∷ 0 ∷ []; down-messages = 0 ∷ 0 ∷ 0 ∷ [] });
+          (record { up_leases = 0 ∷ 2 ∷ 2 ∷ []; up_messages = 0 ∷ 8 ∷ 8 ∷ []; down_leases = 0 ∷ 0 ∷ 0 ∷ []; down_messages = 0 ∷ 0 ∷ 0 ∷ [] });
     }
 
 -- the path's list, run in one call: the answers 0, 5 and 9, and 16 messages of 688 bits
-abbrev pub path-in-one-call : Case
-path-in-one-call =
+abbrev pub path_in_one_call : Case
+path_in_one_call =
     record {
-      input = run (grown (0 ∷ 0 ∷ 1 ∷ [])) path-list 3 86;
+      input = run (grown (0 ∷ 0 ∷ 1 ∷ [])) path_list 3 86;
       output =
           runs 0 0
           (record { requests = 6; answers = 3; messages = 16; next = 688 })
@@ -161,7 +161,7 @@ path-in-one-call =
           ∷ Update 2 1 (pos 9) ∷ Update 1 0 (pos 9) ∷ Release 0 1 ∷ Release 1 2
           ∷ Probe 0 1 ∷ Probe 1 2 ∷ Response 2 1 (pos 9) ∷ Response 1 0 (pos 9)
           ∷ [])
-          (record { up-leases = 0 ∷ 2 ∷ 2 ∷ []; up-messages = 0 ∷ 8 ∷ 8 ∷ []; down-leases = 0 ∷ 0 ∷ 0 ∷ []; down-messages = 0 ∷ 0 ∷ 0 ∷ [] });
+          (record { up_leases = 0 ∷ 2 ∷ 2 ∷ []; up_messages = 0 ∷ 8 ∷ 8 ∷ []; down_leases = 0 ∷ 0 ∷ 0 ∷ []; down_messages = 0 ∷ 0 ∷ 0 ∷ [] });
     }
 
 unfoldable pub cases : List Case
@@ -187,10 +187,10 @@ cases =
     ∷ record { input = log 8 (Response 1 0 (negsuc 0)); output = logs (0x40 ∷ 0x40 ∷ 0x3F ∷ 0xFF ∷ 0xFF ∷ 0xFF ∷ 0xFF ∷ 0xC0 ∷ []) (Read (Response 1 0 (negsuc 0)) 58) }
     ∷ star
     -- the path's list, judged and read
-    ∷ record { input = list path-list; output = judges (record { refusal = 0; requests = 6; combines = 3; first = 13 }) }
-    ∷ record { input = requests path-list; output = asks (Combine 0 ∷ Write 2 (pos 5) ∷ Combine 0 ∷ Write 2 (pos 7) ∷ Write 2 (pos 9) ∷ Combine 0 ∷ []) }
+    ∷ record { input = list path_list; output = judges (record { refusal = 0; requests = 6; combines = 3; first = 13 }) }
+    ∷ record { input = requests path_list; output = asks (Combine 0 ∷ Write 2 (pos 5) ∷ Combine 0 ∷ Write 2 (pos 7) ∷ Write 2 (pos 9) ∷ Combine 0 ∷ []) }
     ∷ path
-    ∷ path-in-one-call
+    ∷ path_in_one_call
     ∷ []
 
 -- these come out as they should
@@ -199,5 +199,5 @@ Hold [] = Unit
 Hold (c ∷ cs) = (outcome c.input ≡ c.output) × Hold cs
 
 -- All come out as document 01 says.
-abbrev pub All-hold : Type 0
-All-hold = Hold cases
+abbrev pub AllHold : Type 0
+AllHold = Hold cases

@@ -7,43 +7,43 @@ use native.Mathlib.Nat.{suc-ne-zero}
 use lib.Dec.{leb}
 use lib.ListN.{length}
 use borrow.Author.Tests.{le-leb, lt-leb, leb-true, leb-false}
-use Rattle.fields.specs.Usable.{usableBits}
-use Rattle.requests.specs.Promises.{Item-exactly, Item-short-exactly}
-use Rattle.requests.specs.Reading.{requestAt, nextPlace, item_at, told}
+use Rattle.fields.specs.Usable.{usable_bits}
+use Rattle.requests.specs.Promises.{ItemExactly, ItemShortExactly}
+use Rattle.requests.specs.Reading.{request_at, next_place, item_at, told}
 use Rattle.requests.specs.declared.Request.{Request}
 use Rattle.requests.specs.declared.Item.TheVariants.{Found, Short}
 
 module _ (s : List ℕ) (place : ℕ) where
-  pub item-there : nextPlace s place ≤ usableBits (length s) → item_at s place ≡ Found (requestAt s place) (nextPlace s place)
+  pub item_there : next_place s place ≤ usable_bits (length s) → item_at s place ≡ Found (request_at s place) (next_place s place)
   unfolding item_at
-  item-there h = rw (le-leb (nextPlace s place) (usableBits (length s)) h)
+  item_there h = rw (le-leb (next_place s place) (usable_bits (length s)) h)
 
-  pub item-cut : usableBits (length s) < nextPlace s place → item_at s place ≡ Short
+  pub item_cut : usable_bits (length s) < next_place s place → item_at s place ≡ Short
   unfolding item_at
-  item-cut h = rw (lt-leb (nextPlace s place) (usableBits (length s)) h)
+  item_cut h = rw (lt-leb (next_place s place) (usable_bits (length s)) h)
 
-pub item-exactly : Item-exactly
+pub item_exactly : ItemExactly
 unfolding item_at
-item-exactly s place next r = (
-  λ e. go (leb (nextPlace s place) (usableBits (length s))) refl e,
-  λ h. rw (item-there s place h.0, h.1, h.2),
+item_exactly s place next r = (
+  λ e. go (leb (next_place s place) (usable_bits (length s))) refl e,
+  λ h. rw (item_there s place h.0, h.1, h.2),
 )
   where
-    go : (b : Bool) → leb (nextPlace s place) (usableBits (length s)) ≡ b → told (cond b (Found (requestAt s place) (nextPlace s place)) Short) ≡ (0, (r, next) ∷ [])
-        → (nextPlace s place ≤ usableBits (length s)) × (r ≡ requestAt s place) × (next ≡ nextPlace s place)
+    go : (b : Bool) → leb (next_place s place) (usable_bits (length s)) ≡ b → told (cond b (Found (request_at s place) (next_place s place)) Short) ≡ (0, (r, next) ∷ [])
+        → (next_place s place ≤ usable_bits (length s)) × (r ≡ request_at s place) × (next ≡ next_place s place)
     go true p e =
-        let l : ◌≡◌ {A = List (Request × ℕ)} ((requestAt s place, nextPlace s place) ∷ []) ((r, next) ∷ []) = ap (λ (t : ℕ × List (Request × ℕ)). t.1) e in
-        let q : ◌≡◌ {A = Request × ℕ} (requestAt s place, nextPlace s place) (r, next) = cc (l) in
+        let l : ◌≡◌ {A = List (Request × ℕ)} ((request_at s place, next_place s place) ∷ []) ((r, next) ∷ []) = ap (λ (t : ℕ × List (Request × ℕ)). t.1) e in
+        let q : ◌≡◌ {A = Request × ℕ} (request_at s place, next_place s place) (r, next) = cc (l) in
         (leb-true _ _ p, sym (ap (λ (t : Request × ℕ). t.0) q), sym (ap (λ (t : Request × ℕ). t.1) q))
     go false p e = absurd (suc-ne-zero 0 (ap (λ (t : ℕ × List (Request × ℕ)). t.0) e))
 
-pub item-short-exactly : Item-short-exactly
+pub item_short_exactly : ItemShortExactly
 unfolding item_at
-item-short-exactly s place = (
-  λ e. go (leb (nextPlace s place) (usableBits (length s))) refl e,
-  λ h. ap told (item-cut s place h),
+item_short_exactly s place = (
+  λ e. go (leb (next_place s place) (usable_bits (length s))) refl e,
+  λ h. ap told (item_cut s place h),
 )
   where
-    go : (b : Bool) → leb (nextPlace s place) (usableBits (length s)) ≡ b → told (cond b (Found (requestAt s place) (nextPlace s place)) Short) ≡ (1, []) → usableBits (length s) < nextPlace s place
+    go : (b : Bool) → leb (next_place s place) (usable_bits (length s)) ≡ b → told (cond b (Found (request_at s place) (next_place s place)) Short) ≡ (1, []) → usable_bits (length s) < next_place s place
     go true p e = absurd (suc-ne-zero 0 (sym (ap (λ (t : ℕ × List (Request × ℕ)). t.0) e)))
     go false p e = leb-false _ _ p

@@ -4,8 +4,8 @@ use Rattle.fields.specs.Outcomes.{OneResult}
 use Rattle.requests.proofs.judge.Reads as judge
 use Rattle.requests.proofs.request_at.Reads as request_at
 
-pub judge-once : OneResult judge.Post
-judge-once κ a x y s t p q = p ∙ sym q
+pub judge_once : OneResult judge.Post
+judge_once κ a x y s t p q = p ∙ sym q
 
-pub request-at-once : OneResult request_at.Post
-request-at-once κ a x y s t p q = p ∙ sym q
+pub request_at_once : OneResult request_at.Post
+request_at_once κ a x y s t p q = p ∙ sym q

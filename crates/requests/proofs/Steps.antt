@@ -15,14 +15,14 @@ use Rattle.fields.proofs.ReadBack.{field_lt}
 use Rattle.fields.proofs.Rooms.{found, cut_off}
 use Rattle.twos.specs.Twos.{signed, decoded, decoded32}
 use Rattle.twos.specs.declared.Decoded32.TheVariants as decoding
-use Rattle.twos.proofs.RoundTrip.{read-decodes}
-use Rattle.twos.proofs.Signs.{signed-mag}
-use Rattle.twos.proofs.Told.{decoded-value}
-use Rattle.requests.specs.Reading.{requestAt, item_at}
+use Rattle.twos.proofs.RoundTrip.{read_decodes}
+use Rattle.twos.proofs.Signs.{signed_mag}
+use Rattle.twos.proofs.Told.{decoded_value}
+use Rattle.requests.specs.Reading.{request_at, item_at}
 use Rattle.requests.specs.declared.Request.TheVariants.{Combine, Write}
 use Rattle.requests.specs.declared.Item.TheVariants.{Found, Short}
-use Rattle.requests.proofs.Places.{after-combine, after_write, after_more}
-use Rattle.requests.proofs.Items.{item-there, item-cut}
+use Rattle.requests.proofs.Places.{after_combine_lem, after_write_lem, after_more}
+use Rattle.requests.proofs.Items.{item_there, item_cut}
 
 -- what was found at a place and a width that are these numbers
 pub found_at : (s : List ℕ) {at place w width : ℕ} {f : Field} → field_at s at w ≡ f → at ≡ place → w ≡ width → field_at s place width ≡ f
@@ -30,49 +30,49 @@ found_at s e p q = rw (← p, ← q) e
 
 -- the number in 32 bits that were found stands for a value of 32 bits
 module _ (s : List ℕ) (place number : ℕ) (f : field_at s place 32 ≡ finding.Value number) where
-  value-small : mag (signed 32 number) < 2 ^ 31
-  value-small = signed-mag 32 (omega arith) number (rw (found s place 32 number f).2 (field_lt s place 32))
+  value_small : mag (signed 32 number) < 2 ^ 31
+  value_small = signed_mag 32 (omega arith) number (rw (found s place 32 number f).2 (field_lt s place 32))
 
   value_read : decoded32 32 number ≡ decoding.Value (signed 32 number)
   unfolding decoded32
   value_read =
-      let d = decoded-value (decoded 32 number) (signed 32 number) (read-decodes s place 32 number (omega arith) (ap told f)) in
-      rw (d, lt-ltb (mag (signed 32 number)) (2 ^ 31) value-small)
+      let d = decoded_value (decoded 32 number) (signed 32 number) (read_decodes s place 32 number (omega arith) (ap told f)) in
+      rw (d, lt-ltb (mag (signed 32 number)) (2 ^ 31) value_small)
 
-  pub no-misfit : decoded32 32 number ≡ decoding.Misfit → ⊥
-  no-misfit d = let y : ◌≡◌ {A = ℕ} 1 0 = cc (value_read, d) in suc-ne-zero 0 y
+  pub no_misfit : decoded32 32 number ≡ decoding.Misfit → ⊥
+  no_misfit d = let y : ◌≡◌ {A = ℕ} 1 0 = cc (value_read, d) in suc-ne-zero 0 y
 
 module _ (s : List ℕ) (place : ℕ) where
   pub no_kind : field_at s place 1 ≡ finding.Short → item_at s place ≡ Short
-  no_kind f = item-cut s place (omega (arith, cut_off s place 1 (omega arith) f, after_more s place))
+  no_kind f = item_cut s place (omega (arith, cut_off s place 1 (omega arith) f, after_more s place))
 
   pub no_node : field_at s (place + 1) 8 ≡ finding.Short → item_at s place ≡ Short
-  no_node f = item-cut s place (omega (arith, cut_off s (place + 1) 8 (omega arith) f, after_more s place))
+  no_node f = item_cut s place (omega (arith, cut_off s (place + 1) 8 (omega arith) f, after_more s place))
 
   module _ (kind node : ℕ) (fk : field_at s place 1 ≡ finding.Value kind) (fn : field_at s (place + 1) 8 ≡ finding.Value node) where
-    pub node-byte : node < 256
-    node-byte = omega (arith, (found s (place + 1) 8 node fn).2, field_lt s (place + 1) 8)
+    pub node_byte : node < 256
+    node_byte = omega (arith, (found s (place + 1) 8 node fn).2, field_lt s (place + 1) 8)
 
-    pub combine-found : kind ≡ 0 → item_at s place ≡ Found (Combine node) (place + 9)
-    unfolding requestAt
-    combine-found z =
+    pub combine_found : kind ≡ 0 → item_at s place ≡ Found (Combine node) (place + 9)
+    unfolding request_at
+    combine_found z =
         let e : field s place 1 ≡ 0 = sym (found s place 1 kind fk).2 ∙ z in
-        let a = after-combine s place e in
-        item-there s place (omega (arith, (found s (place + 1) 8 node fn).1)) ∙ rw (a, eq-eqb (field s place 1) 0 e, (found s (place + 1) 8 node fn).2)
+        let a = after_combine_lem s place e in
+        item_there s place (omega (arith, (found s (place + 1) 8 node fn).1)) ∙ rw (a, eq-eqb (field s place 1) 0 e, (found s (place + 1) 8 node fn).2)
 
     module _ (z : kind ≡ 0 → ⊥) where
-      is-write : field s place 1 ≡ 0 → ⊥
-      is-write e = z ((found s place 1 kind fk).2 ∙ e)
+      is_write : field s place 1 ≡ 0 → ⊥
+      is_write e = z ((found s place 1 kind fk).2 ∙ e)
 
       pub no_value : field_at s (place + 9) 32 ≡ finding.Short → item_at s place ≡ Short
-      no_value f = item-cut s place (omega (arith, after_write s place is-write, cut_off s (place + 9) 32 (omega arith) f))
+      no_value f = item_cut s place (omega (arith, after_write_lem s place is_write, cut_off s (place + 9) 32 (omega arith) f))
 
-      pub write-found : (number next : ℕ) (value : ℤ) → field_at s (place + 9) 32 ≡ finding.Value number → decoded32 32 number ≡ decoding.Value value → next ≡ place + 41 → item_at s place ≡ Found (Write node value) next
-      unfolding requestAt
-      write-found number next value f d e =
-          let a = after_write s place is-write in
-          item-there s place (omega (arith, (found s (place + 9) 32 number f).1))
-          ∙ rw (a, e, ne_eqb (field s place 1) 0 is-write, ← value-is, (found s (place + 1) 8 node fn).2, (found s (place + 9) 32 number f).2)
+      pub write_found : (number next : ℕ) (value : ℤ) → field_at s (place + 9) 32 ≡ finding.Value number → decoded32 32 number ≡ decoding.Value value → next ≡ place + 41 → item_at s place ≡ Found (Write node value) next
+      unfolding request_at
+      write_found number next value f d e =
+          let a = after_write_lem s place is_write in
+          item_there s place (omega (arith, (found s (place + 9) 32 number f).1))
+          ∙ rw (a, e, ne_eqb (field s place 1) 0 is_write, ← value_is, (found s (place + 1) 8 node fn).2, (found s (place + 9) 32 number f).2)
         where
-          value-is : signed 32 number ≡ value
-          value-is = let e = sym (value_read s (place + 9) number f) ∙ d in cc
+          value_is : signed 32 number ≡ value
+          value_is = let e = sym (value_read s (place + 9) number f) ∙ d in cc

@@ -33,17 +33,17 @@ parts_of [] = []
 parts_of (r ∷ rs) = part_of r ∷ parts_of rs
 
 -- the fields of a list, and its bytes: the count in 13 bits, then each request
-abbrev pub listParts : List Request → List Part
-listParts rs = record { width = 13; number = length rs } ∷ parts_of rs
+abbrev pub list_parts : List Request → List Part
+list_parts rs = record { width = 13; number = length rs } ∷ parts_of rs
 
 abbrev pub list_of : List Request → List ℕ
-list_of rs = packed (listParts rs)
+list_of rs = packed (list_parts rs)
 
 -- how many requests are combines
-abbrev pub oneIfCombine : Request → ℕ
-oneIfCombine (Combine node) = 1
-oneIfCombine (Write node value) = 0
+abbrev pub one_if_combine : Request → ℕ
+one_if_combine (Combine node) = 1
+one_if_combine (Write node value) = 0
 
-unfoldable pub combinesIn : List Request → ℕ
-combinesIn [] = 0
-combinesIn (r ∷ rs) = oneIfCombine r + combinesIn rs
+unfoldable pub combines_in : List Request → ℕ
+combines_in [] = 0
+combines_in (r ∷ rs) = one_if_combine r + combines_in rs

@@ -1,10 +1,10 @@
 -- What the reader finds at a place of a list, and what it answers of the whole, as a computation.
 use Rattle.std.specs.Prelude.{◌≡◌, Bool, cond, List, [], ◌∷◌, ℕ, zero, suc, ◌+◌, ◌*◌, eqb, leb, length}
 use Rattle.fields.specs.Fields.{field}
-use Rattle.fields.specs.Usable.{usableBits}
+use Rattle.fields.specs.Usable.{usable_bits}
 use Rattle.twos.specs.Twos.{signed}
 use Rattle.packed.specs.Parts.{ends}
-use Rattle.requests.specs.Lists.{oneIfCombine}
+use Rattle.requests.specs.Lists.{one_if_combine}
 use Rattle.requests.specs.declared.Request.{Request}
 use Rattle.requests.specs.declared.Request.TheVariants.{Combine, Write}
 use Rattle.requests.specs.declared.Item.{Item}
@@ -13,18 +13,18 @@ use Rattle.requests.specs.declared.Judged.{Judged}
 
 -- ---- one request
 
-abbrev pub isCombine : List ℕ → ℕ → Bool
-isCombine s place = eqb (field s place 1) 0
+abbrev pub is_combine : List ℕ → ℕ → Bool
+is_combine s place = eqb (field s place 1) 0
 
 -- the request at a place, and the place after it: past the end every bit reads 0, so a request that is cut off ends past the end
-unfoldable pub requestAt : List ℕ → ℕ → Request
-requestAt s place = cond (isCombine s place) (Combine (field s (place + 1) 8)) (Write (field s (place + 1) 8) (signed 32 (field s (place + 9) 32)))
+unfoldable pub request_at : List ℕ → ℕ → Request
+request_at s place = cond (is_combine s place) (Combine (field s (place + 1) 8)) (Write (field s (place + 1) 8) (signed 32 (field s (place + 9) 32)))
 
-unfoldable pub nextPlace : List ℕ → ℕ → ℕ
-nextPlace s place = place + cond (isCombine s place) 9 41
+unfoldable pub next_place : List ℕ → ℕ → ℕ
+next_place s place = place + cond (is_combine s place) 9 41
 
 unfoldable pub item_at : List ℕ → ℕ → Item
-item_at s place = cond (leb (nextPlace s place) (usableBits (length s))) (Found (requestAt s place) (nextPlace s place)) Short
+item_at s place = cond (leb (next_place s place) (usable_bits (length s))) (Found (request_at s place) (next_place s place)) Short
 
 -- document 01's number for what was found, and the request with the next place if there is one
 abbrev pub told : Item → ℕ × List (Request × ℕ)
@@ -38,33 +38,33 @@ Hands s place (r ∷ rs) = (next : ℕ) × (told (item_at s place) ≡ (0, (r, n
 
 -- ---- the list
 
-abbrev pub countAt : List ℕ → ℕ
-countAt s = field s 0 13
+abbrev pub count_at : List ℕ → ℕ
+count_at s = field s 0 13
 
 -- where request k stands, counted from 0; place_of s n is where n requests end
 unfoldable pub place_of : List ℕ → ℕ → ℕ
 place_of s zero = 13
-place_of s (suc k) = nextPlace s (place_of s k)
+place_of s (suc k) = next_place s (place_of s k)
 
 -- k requests from a place on, and all requests of the list
-unfoldable pub requestsFrom : List ℕ → ℕ → ℕ → List Request
-requestsFrom s place zero = []
-requestsFrom s place (suc k) = requestAt s place ∷ requestsFrom s (nextPlace s place) k
+unfoldable pub requests_from : List ℕ → ℕ → ℕ → List Request
+requests_from s place zero = []
+requests_from s place (suc k) = request_at s place ∷ requests_from s (next_place s place) k
 
-abbrev pub requestsOf : List ℕ → List Request
-requestsOf s = requestsFrom s 13 (countAt s)
+abbrev pub requests_of : List ℕ → List Request
+requests_of s = requests_from s 13 (count_at s)
 
 -- how many of the first k requests are combines
-unfoldable pub combinesTo : List ℕ → ℕ → ℕ
-combinesTo s zero = 0
-combinesTo s (suc k) = combinesTo s k + oneIfCombine (requestAt s (place_of s k))
+unfoldable pub combines_to : List ℕ → ℕ → ℕ
+combines_to s zero = 0
+combines_to s (suc k) = combines_to s k + one_if_combine (request_at s (place_of s k))
 
 -- the fault of requests that end at a place: 1 where the list ends before them, 4 where more is left than zero bits to the byte
-abbrev pub endFault : List ℕ → ℕ → ℕ
-endFault s place = cond (leb place (8 * length s)) (cond (ends s place) 0 4) 1
+abbrev pub end_fault : List ℕ → ℕ → ℕ
+end_fault s place = cond (leb place (8 * length s)) (cond (ends s place) 0 4) 1
 
-unfoldable pub refusalOf : List ℕ → ℕ
-refusalOf s = cond (leb 13 (8 * length s)) (cond (leb (countAt s) 4096) (endFault s (place_of s (countAt s))) 5) 1
+unfoldable pub refusal_of : List ℕ → ℕ
+refusal_of s = cond (leb 13 (8 * length s)) (cond (leb (count_at s) 4096) (end_fault s (place_of s (count_at s))) 5) 1
 
 -- what judging a list answers: 0 and the numbers, or a refusal and zeros
 abbrev pub refused : ℕ → Judged
@@ -74,5 +74,5 @@ abbrev pub verdict : ℕ → ℕ → ℕ → Judged
 verdict zero n c = record { refusal = 0; requests = n; combines = c; first = 13 }
 verdict (suc r) n c = refused (suc r)
 
-unfoldable pub judgedOf : List ℕ → Judged
-judgedOf s = verdict (refusalOf s) (countAt s) (combinesTo s (countAt s))
+unfoldable pub judged_of : List ℕ → Judged
+judged_of s = verdict (refusal_of s) (count_at s) (combines_to s (count_at s))

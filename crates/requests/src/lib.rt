@@ -6,7 +6,7 @@
 mod reader; // the requests of a list, one by one
 
 ghost use Rattle.std.specs.Prelude.{◌≡◌};
-ghost use Rattle.requests.specs.Reading.{item_at, judgedOf};
+ghost use Rattle.requests.specs.Reading.{item_at, judged_of};
 
 // A request: a combine at a node, or a write of a value at a node. Whether the tree has such a node
 // is not judged here.
@@ -40,7 +40,7 @@ pub struct Judged {
 // is above 4,096, 4 a filling bit is set or bytes are left over. The first fault decides, and 4 comes
 // last.
 pub fn judge(list: &[u8]) -> Judged
-    ensures { result ≡ judgedOf list.now }
+    ensures { result ≡ judged_of list.now }
 {
     let fields::Field::Value(count) = fields::get(list, 0, 13) else {
         return reader::refused(1);

@@ -1,16 +1,16 @@
 // The requests of a list, one by one.
 ghost use Rattle.std.specs.Prelude.{◌≡◌};
 ghost use Rattle.requests.specs.Format.{Counted};
-ghost use Rattle.requests.specs.Lists.{oneIfCombine};
-ghost use Rattle.requests.specs.Reading.{judgedOf};
-ghost use Rattle.requests.specs.Reading.{refused as Reading·refused};
+ghost use Rattle.requests.specs.Lists.{one_if_combine};
+ghost use Rattle.requests.specs.Reading.{judged_of};
+ghost use Rattle.requests.specs.Reading;
 
 use crate::{Item, Judged, Request};
 
 // The requests of a list whose count is in rule, then its end.
 pub fn requests(list: &[u8], count: usize) -> Judged
     requires { Counted list.now count }
-    ensures { result ≡ judgedOf list.now }
+    ensures { result ≡ judged_of list.now }
 {
     let mut place: usize = 13;
     let mut combines: usize = 0;
@@ -36,7 +36,7 @@ pub fn requests(list: &[u8], count: usize) -> Judged
 
 // How many combines a request is: 1 for a combine, 0 for a write.
 pub fn one_if_combine(request: Request) -> usize
-    ensures { result ≡ oneIfCombine request }
+    ensures { result ≡ one_if_combine request }
 {
     match request {
         Request::Combine(_) => 1,
@@ -46,7 +46,7 @@ pub fn one_if_combine(request: Request) -> usize
 
 // What judging a refused list answers: its number, and zeros.
 pub fn refused(number: u8) -> Judged
-    ensures { result ≡ Reading·refused number }
+    ensures { result ≡ Reading.refused number }
 {
     Judged {
         refusal: number,

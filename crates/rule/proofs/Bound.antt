@@ -3,18 +3,18 @@ use mathlib.Core.List.{List}
 use Prim.Native.Nat.{ℕ, zero, suc, ◌+◌, ◌*◌, ◌≤◌}
 use native.Mathlib.Omega.{arith}
 use Rattle.rule.specs.Pair.{Request, combine, write, next, price, messages}
-use Rattle.rule.specs.Schedules.{Mode, off, on, Schedule, combine-off-off, combine-off-on, combine-on-on, write-off-off, write-on-on, write-on-off, end}
+use Rattle.rule.specs.Schedules.{Mode, off, on, Schedule, combine_off_off, combine_off_on, combine_on_on, write_off_off, write_on_on, write_on_off, end}
 use Rattle.rule.specs.Configurations.{potential}
-use Rattle.rule.specs.Promises.{Bound, Five-halves}
+use Rattle.rule.specs.Promises.{Bound, FiveHalves}
 
 -- at the number k, for each entry of the table
 record Paid (k : ℕ) : Type 0 where
-  combine-off-off : 2 * price k combine + potential off (next 2 k combine) ≤ 5 * 2 + potential off k
-  combine-off-on : 2 * price k combine + potential on (next 2 k combine) ≤ 5 * 2 + potential off k
-  combine-on-on : 2 * price k combine + potential on (next 2 k combine) ≤ 5 * 0 + potential on k
-  write-off-off : 2 * price k write + potential off (next 2 k write) ≤ 5 * 0 + potential off k
-  write-on-on : 2 * price k write + potential on (next 2 k write) ≤ 5 * 1 + potential on k
-  write-on-off : 2 * price k write + potential off (next 2 k write) ≤ 5 * 2 + potential on k
+  combine_off_off : 2 * price k combine + potential off (next 2 k combine) ≤ 5 * 2 + potential off k
+  combine_off_on : 2 * price k combine + potential on (next 2 k combine) ≤ 5 * 2 + potential off k
+  combine_on_on : 2 * price k combine + potential on (next 2 k combine) ≤ 5 * 0 + potential on k
+  write_off_off : 2 * price k write + potential off (next 2 k write) ≤ 5 * 0 + potential off k
+  write_on_on : 2 * price k write + potential on (next 2 k write) ≤ 5 * 1 + potential on k
+  write_on_off : 2 * price k write + potential off (next 2 k write) ≤ 5 * 2 + potential on k
 
 paid : (k : ℕ) → Paid k
 unfolding price next potential
@@ -25,17 +25,17 @@ paid (suc (suc (suc k))) = omega arith
 
 pays : {m : Mode} {l : List Request} {c : ℕ} (k : ℕ) → Schedule m l c → 2 * messages 2 k l ≤ 5 * c + potential m k
 unfolding messages next
-pays k (combine-off-off s) = omega (arith, pays (next 2 k combine) s, paid k)
-pays k (combine-off-on s) = omega (arith, pays (next 2 k combine) s, paid k)
-pays k (combine-on-on s) = omega (arith, pays (next 2 k combine) s, paid k)
-pays k (write-off-off s) = omega (arith, pays (next 2 k write) s, paid k)
-pays k (write-on-on s) = omega (arith, pays (next 2 k write) s, paid k)
-pays k (write-on-off s) = omega (arith, pays (next 2 k write) s, paid k)
+pays k (combine_off_off s) = omega (arith, pays (next 2 k combine) s, paid k)
+pays k (combine_off_on s) = omega (arith, pays (next 2 k combine) s, paid k)
+pays k (combine_on_on s) = omega (arith, pays (next 2 k combine) s, paid k)
+pays k (write_off_off s) = omega (arith, pays (next 2 k write) s, paid k)
+pays k (write_on_on s) = omega (arith, pays (next 2 k write) s, paid k)
+pays k (write_on_off s) = omega (arith, pays (next 2 k write) s, paid k)
 pays k end = omega arith
 
 pub bound : Bound
 bound m k l c s = pays k s
 
-pub five-halves : Five-halves
+pub five_halves : FiveHalves
 unfolding potential
-five-halves l c s = omega (arith, pays 0 s)
+five_halves l c s = omega (arith, pays 0 s)

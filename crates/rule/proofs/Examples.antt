@@ -2,7 +2,7 @@
 use mathlib.Core.Path.{◌≡◌, refl}
 use mathlib.Core.Bool.{Bool, true, false}
 use mathlib.Core.List.{List, [], ◌∷◌}
-use Rattle.rule.specs.Pair.{Request, combine, write, belongs, own, next, price, numberAfter, messages}
+use Rattle.rule.specs.Pair.{Request, combine, write, belongs, own, next, price, number_after, messages}
 
 -- the kinds, and whether the node is on u's side of the pair: for (2,1) and (1,0) the writes at 2 are, the combines at 0 are not
 abbrev requests : List (Request × Bool)
@@ -11,15 +11,15 @@ requests = (combine, false) ∷ (write, true) ∷ (combine, false) ∷ (write, t
 abbrev path : List Request
 path = own (λ q. q.0) (λ q. q.1) requests
 
-path-own : path ≡ combine ∷ write ∷ combine ∷ write ∷ write ∷ combine ∷ []
+path_own : path ≡ combine ∷ write ∷ combine ∷ write ∷ write ∷ combine ∷ []
 unfolding own belongs
-path-own = refl
+path_own = refl
 
 -- each of the two pairs sends 8 of the 16 messages, and ends with a lease
-path-messages : messages 2 0 path ≡ 8
+path_messages : messages 2 0 path ≡ 8
 unfolding own belongs messages price next
-path-messages = refl
+path_messages = refl
 
-path-number : numberAfter 2 0 path ≡ 2
-unfolding own belongs numberAfter next
-path-number = refl
+path_number : number_after 2 0 path ≡ 2
+unfolding own belongs number_after next
+path_number = refl

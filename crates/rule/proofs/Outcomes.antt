@@ -4,8 +4,8 @@ use Rattle.fields.specs.Outcomes.{OneResult}
 use Rattle.rule.proofs.Rule.after_combines.Reads as after_combines
 use Rattle.rule.proofs.Rule.after_writes.Reads as after_writes
 
-pub after-combines-once : OneResult after_combines.Post
-after-combines-once κ a x y s t p q = p ∙ sym q
+pub after_combines_once : OneResult after_combines.Post
+after_combines_once κ a x y s t p q = p ∙ sym q
 
-pub after-writes-once : OneResult after_writes.Post
-after-writes-once κ a x y s t p q = p ∙ sym q
+pub after_writes_once : OneResult after_writes.Post
+after_writes_once κ a x y s t p q = p ∙ sym q

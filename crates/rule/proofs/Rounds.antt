@@ -3,15 +3,15 @@ use mathlib.Core.Path.{refl}
 use Prim.Native.Nat.{zero, suc, ◌+◌}
 use native.Mathlib.Omega.{arith}
 use Rattle.rule.specs.Pair.{next, price, messages, rounds}
-use Rattle.rule.specs.Schedules.{combine-off-off, write-off-off, end, staysOff}
-use Rattle.rule.specs.Promises.{Rounds-cost, Rounds-off}
+use Rattle.rule.specs.Schedules.{combine_off_off, write_off_off, end, stays_off}
+use Rattle.rule.specs.Promises.{RoundsCost, RoundsOff}
 
-pub rounds-cost : Rounds-cost
+pub rounds_cost : RoundsCost
 unfolding messages price next rounds
-rounds-cost zero = refl
-rounds-cost (suc n) = omega (arith, rounds-cost n)
+rounds_cost zero = refl
+rounds_cost (suc n) = omega (arith, rounds_cost n)
 
-pub rounds-off : Rounds-off
-unfolding rounds staysOff
-rounds-off zero = (0, end, refl, refl)
-rounds-off (suc n) = let r = rounds-off n in (2 + (0 + (0 + r.0)), combine-off-off (write-off-off (write-off-off r.1)), r.2, omega (arith, r.3))
+pub rounds_off : RoundsOff
+unfolding rounds stays_off
+rounds_off zero = (0, end, refl, refl)
+rounds_off (suc n) = let r = rounds_off n in (2 + (0 + (0 + r.0)), combine_off_off (write_off_off (write_off_off r.1)), r.2, omega (arith, r.3))

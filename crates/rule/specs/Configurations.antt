@@ -5,11 +5,11 @@ use Rattle.rule.specs.Schedules.{Mode, off, on}
 
 pub data Configuration : List Request → ℕ → Type 0 where
   initial : Configuration [] 0
-  combine-last : (l : List Request) → Configuration (l ++ (combine ∷ [])) 2
-  combine-write-last : (l : List Request) → Configuration (l ++ (combine ∷ write ∷ [])) 1
-  write-write-last : (l : List Request) → Configuration (l ++ (write ∷ write ∷ [])) 0
+  combine_last : (l : List Request) → Configuration (l ++ (combine ∷ [])) 2
+  combine_write_last : (l : List Request) → Configuration (l ++ (combine ∷ write ∷ [])) 1
+  write_write_last : (l : List Request) → Configuration (l ++ (write ∷ write ∷ [])) 0
   -- the one list that the paper's four cases leave out: it stays as it was
-  one-write : Configuration (write ∷ []) 0
+  one_write : Configuration (write ∷ []) 0
 
 -- the paper's potential, doubled, of a schedule's mode and a lease number: 0, 4, 6 and 5, 4, 1 at 0, 1, 2
 unfoldable pub potential : Mode → ℕ → ℕ

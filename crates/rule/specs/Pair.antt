@@ -33,9 +33,9 @@ price (suc zero) write = 2
 price (suc (suc k)) write = 1
 
 -- the number after a list of requests, from the number k on
-unfoldable pub numberAfter : ℕ → ℕ → List Request → ℕ
-numberAfter b k [] = k
-numberAfter b k (r ∷ l) = numberAfter b (next b k r) l
+unfoldable pub number_after : ℕ → ℕ → List Request → ℕ
+number_after b k [] = k
+number_after b k (r ∷ l) = number_after b (next b k r) l
 
 -- the messages of a list of requests, from the number k on
 unfoldable pub messages : ℕ → ℕ → List Request → ℕ

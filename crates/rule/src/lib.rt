@@ -4,7 +4,7 @@
 // A pair's lease number is 0 where there is no lease, and else how many writes in a row break it.
 // What the rule sends and what that costs at most is mathematics: it stands in specs/ and proofs/.
 ghost use Rattle.std.specs.Prelude.{◌≡◌, replicate};
-ghost use Rattle.rule.specs.Pair.{combine, write, numberAfter};
+ghost use Rattle.rule.specs.Pair.{combine, write, number_after};
 
 #[derive(Drop)]
 pub struct Rule {}
@@ -17,7 +17,7 @@ impl Rule {
 
     // The lease number after so many combines in a row.
     pub fn after_combines(number: u8, combines: u32) -> u8
-        ensures { result ≡ numberAfter 2 number (replicate combines combine) }
+        ensures { result ≡ number_after 2 number (replicate combines combine) }
     {
         if Rule::GRANT <= combines {
             return Rule::BREAK;
@@ -27,7 +27,7 @@ impl Rule {
 
     // The lease number after so many writes in a row.
     pub fn after_writes(number: u8, writes: u32) -> u8
-        ensures { result ≡ numberAfter 2 number (replicate writes write) }
+        ensures { result ≡ number_after 2 number (replicate writes write) }
     {
         if (number as u32) <= writes {
             return 0;

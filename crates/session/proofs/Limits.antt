@@ -15,7 +15,7 @@ use Rattle.tree.specs.Ranges.{in_range}
 use Rattle.tree.specs.inner.Places.{from}
 use Rattle.tree.specs.Every.{every}
 use Rattle.tree.proofs.Every.{from_more, same_test}
-use Rattle.session.specs.Soundness.{inLimits}
+use Rattle.session.specs.Soundness.{in_limits}
 
 -- ---- the range: its lower end has 64 bits
 
@@ -26,48 +26,48 @@ least_size (suc x) h = omega arith
 pub least_fits : (k : ℕ) → k < 2 ^ 32 → SFits w64 (neg_ℤ (pos (k * 2147483648)))
 least_fits k h = record { sfits = least_size (k * 2147483648) (omega arith) }
 
-ends-below : (a b : ℕ) → leb a b ≡ not (ltb b a)
-ends-below a b = go (ltb b a) refl
+ends_below : (a b : ℕ) → leb a b ≡ not (ltb b a)
+ends_below a b = go (ltb b a) refl
   where
     go : (t : Bool) → ltb b a ≡ t → leb a b ≡ not t
     go true e = lt-leb a b (ltb-true b a e)
     go false e = le-leb a b (ltb-false b a e)
 
-not-below : (y z : ℤ) → le_z y z ≡ not (lt_z z y)
-not-below (pos a) (pos b) = ends-below a b
-not-below (pos a) (negsuc b) = refl
-not-below (negsuc a) (pos b) = refl
-not-below (negsuc a) (negsuc b) = ends-below b a
+not_below : (y z : ℤ) → le_z y z ≡ not (lt_z z y)
+not_below (pos a) (pos b) = ends_below a b
+not_below (pos a) (negsuc b) = refl
+not_below (negsuc a) (pos b) = refl
+not_below (negsuc a) (negsuc b) = ends_below b a
 
 module _ (k : ℕ) (z : ℤ) where
-  pub below-range : lt_z z (neg_ℤ (pos (k * 2147483648))) ≡ true → in_range k z ≡ false
+  pub below_range : lt_z z (neg_ℤ (pos (k * 2147483648))) ≡ true → in_range k z ≡ false
   unfolding in_range
-  below-range e = rw (not-below (neg_ℤ (pos (k * 2147483648))) z, e)
+  below_range e = rw (not_below (neg_ℤ (pos (k * 2147483648))) z, e)
 
-  pub end-left : (y : ℕ) → y ≡ k * 2147483647 → lt_z z (neg_ℤ (pos (k * 2147483648))) ≡ false → le_z z (pos y) ≡ in_range k z
+  pub end_left : (y : ℕ) → y ≡ k * 2147483647 → lt_z z (neg_ℤ (pos (k * 2147483648))) ≡ false → le_z z (pos y) ≡ in_range k z
   unfolding in_range
-  end-left y q e = rw (q, not-below (neg_ℤ (pos (k * 2147483648))) z, e)
+  end_left y q e = rw (q, not_below (neg_ℤ (pos (k * 2147483648))) z, e)
 
 -- the range of no node is zero
 pub only_zero : (z : ℤ) → in_range 0 z ≡ true → z ≡ pos 0
 unfolding in_range
-only_zero (pos n) e = ap pos (zero-most n (leb-true n 0 ((and-eq-true_iff (leb 0 n) (leb n 0)).0 e).1))
+only_zero (pos n) e = ap pos (zero_most n (leb-true n 0 ((and-eq-true_iff (leb 0 n) (leb n 0)).0 e).1))
   where
-    zero-most : (n : ℕ) → n ≤ 0 → n ≡ 0
-    zero-most n h = omega arith
+    zero_most : (n : ℕ) → n ≤ 0 → n ≡ 0
+    zero_most n h = omega arith
 only_zero (negsuc n) e = absurd (true≢false (sym e))
 
 -- and zero is in every range
-pub zero-in-range : (k : ℕ) → in_range k (pos 0) ≡ true
+pub zero_in_range : (k : ℕ) → in_range k (pos 0) ≡ true
 unfolding in_range
-zero-in-range k = ap₂ ◌&&◌ (not-above (k * 2147483648)) (le-leb 0 (k * 2147483647) (omega arith))
+zero_in_range k = ap₂ ◌&&◌ (not_above (k * 2147483648)) (le-leb 0 (k * 2147483647) (omega arith))
   where
-    not-above : (x : ℕ) → le_z (neg_ℤ (pos x)) (pos 0) ≡ true
-    not-above zero = refl
-    not-above (suc x) = refl
+    not_above : (x : ℕ) → le_z (neg_ℤ (pos x)) (pos 0) ≡ true
+    not_above zero = refl
+    not_above (suc x) = refl
 
 pub zero_in : (z : ℤ) → z ≡ pos 0 → in_range 0 z ≡ true
-zero_in z e = ap (in_range 0) e ∙ zero-in-range 0
+zero_in z e = ap (in_range 0) e ∙ zero_in_range 0
 
 -- as its bits tell
 pub zero_test : (w : Width) (z : ℤ) → to_z w 0 ≡ pos 0 → of_z w (pos 0) ≡ 0 → SFits w z → eqb (of_z w z) 0 ≡ in_range 0 z
@@ -76,8 +76,8 @@ zero_test w z back forth f = same_test _ _
     (λ e. eq-eqb (of_z w z) 0 (ap (of_z w) (only_zero z e) ∙ forth))
 
 -- what is joined by `|` is zero where both are
-pub or-none : (a b : ℕ) → eqb (bit_or a b) 0 ≡ (eqb a 0 && eqb b 0)
-or-none a b = same_test _ _
+pub or_none : (a b : ℕ) → eqb (bit_or a b) 0 ≡ (eqb a 0 && eqb b 0)
+or_none a b = same_test _ _
     (λ e.
     let n = eqb-true (bit_or a b) 0 e in
     ap₂ ◌&&◌ (eq-eqb a 0 (omega (arith, n, or_add_and a b, and_le_r a b))) (eq-eqb b 0 (omega (arith, n, or_add_and a b, and_le_l a b))))
@@ -86,18 +86,18 @@ or-none a b = same_test _ _
     eq-eqb (bit_or a b) 0 (omega (arith, or_add_and a b, eqb-true a 0 p.0, eqb-true b 0 p.1)))
 
 pub none_more : (test : ℕ → Bool) (k i a b : ℕ) → k ≤ i → eqb a 0 ≡ every (from k test) i → eqb b 0 ≡ test i → eqb (bit_or a b) 0 ≡ every (from k test) (i + 1)
-none_more test k i a b h e f = or-none a b ∙ from_more test k i (eqb a 0) (eqb b 0) h e f
+none_more test k i a b h e f = or_none a b ∙ from_more test k i (eqb a 0) (eqb b 0) h e f
 
 -- ---- lease number, messages and cache
 
 module _ (b k twice lease : ℕ) (cache : ℤ) (messages : ℕ) where
-  pub limits-parts : inLimits b k twice lease cache messages ≡ true → (lease ≤ b) × ((messages ≤ twice) × (in_range k cache ≡ true))
-  unfolding inLimits
-  limits-parts e =
+  pub limits_parts : in_limits b k twice lease cache messages ≡ true → (lease ≤ b) × ((messages ≤ twice) × (in_range k cache ≡ true))
+  unfolding in_limits
+  limits_parts e =
       let p = (and-eq-true_iff (leb lease b) (leb messages twice && in_range k cache)).0 e in
       let q = (and-eq-true_iff (leb messages twice) (in_range k cache)).0 p.1 in
       (leb-true lease b p.0, (leb-true messages twice q.0, q.1))
 
-  pub limits_of : lease ≤ b → messages ≤ twice → in_range k cache ≡ true → inLimits b k twice lease cache messages ≡ true
-  unfolding inLimits
+  pub limits_of : lease ≤ b → messages ≤ twice → in_range k cache ≡ true → in_limits b k twice lease cache messages ≡ true
+  unfolding in_limits
   limits_of g h e = rw (le-leb lease b g, le-leb messages twice h, e)

@@ -7,17 +7,17 @@ use Rattle.session.proofs.Session.is_sound.Reads as is-sound
 use Rattle.session.proofs.parts_are_sound.Reads as parts-are-sound
 use Rattle.session.proofs.Session.write_table.Reads as write-table
 
-pub fresh-once : OneResult fresh.Post
-fresh-once κ a x y s t p q = p ∙ sym q
+pub fresh_once : OneResult fresh.Post
+fresh_once κ a x y s t p q = p ∙ sym q
 
-pub load-once : OneResult load.Post
-load-once κ a x y s t p q = p ∙ sym q
+pub load_once : OneResult load.Post
+load_once κ a x y s t p q = p ∙ sym q
 
-pub is-sound-once : OneResult is-sound.Post
-is-sound-once κ a x y s t p q = p ∙ sym q
+pub is_sound_once : OneResult is-sound.Post
+is_sound_once κ a x y s t p q = p ∙ sym q
 
-pub parts-are-sound-once : OneResult parts-are-sound.Post
-parts-are-sound-once κ a x y s t p q = p ∙ sym q
+pub parts_are_sound_once : OneResult parts-are-sound.Post
+parts_are_sound_once κ a x y s t p q = p ∙ sym q
 
-pub write-table-once : OneOutcome write-table.Post (λ κ s. s.1.0.now)
-write-table-once κ a x y s t p q = (p.0 ∙ sym q.0, p.1 ∙ sym q.1)
+pub write_table_once : OneOutcome write-table.Post (λ κ s. s.1.0.now)
+write_table_once κ a x y s t p q = (p.0 ∙ sym q.0, p.1 ∙ sym q.1)

@@ -11,19 +11,19 @@ use lib.Dec.{ltb}
 use lib.IntN.{pos}
 use lib.ListN.{get_or, replicate}
 use borrow.Author.Tests.{eq-eqb, ne_eqb}
-use Rattle.tree.specs.Parents.{InRule, inRule}
+use Rattle.tree.specs.Parents.{InRule, in_rule}
 use Rattle.tree.specs.declared.Tree.{Tree}
 use Rattle.tree.proofs.Cases.{either}
-use Rattle.tree.proofs.InRule.{in-rule-exactly}
+use Rattle.tree.proofs.InRule.{in_rule_exactly}
 use Rattle.table.specs.Reading.{reading_of}
-use Rattle.table.proofs.Tables.{accepted-rule}
-use Rattle.table.proofs.Verdicts.{table-ruled-exactly, reading-accepted}
+use Rattle.table.proofs.Tables.{accepted_rule}
+use Rattle.table.proofs.Verdicts.{table_ruled_exactly, reading_accepted}
 use Rattle.session.specs.Holding.{pair_at}
-use Rattle.session.specs.Promises.{Fresh-sound, Fresh-exactly, Fresh-refused-with-zeros, Load-refuses, Load-accepts}
+use Rattle.session.specs.Promises.{FreshSound, FreshExactly, FreshRefusedWithZeros, LoadRefuses, LoadAccepts}
 use Rattle.session.specs.Soundness.{Unused}
-use Rattle.session.specs.Starting.{empty, fresh_of, zeros, startedOf, loadedOf}
+use Rattle.session.specs.Starting.{empty, fresh_of, zeros, started_of, loaded_of}
 use Rattle.session.specs.declared.Session.{Session}
-use Rattle.session.proofs.Limits.{zero-in-range}
+use Rattle.session.proofs.Limits.{zero_in_range}
 
 -- ---- zeros are within every limit
 
@@ -41,70 +41,70 @@ pair_same d u v = go (ltb v u)
     go true = all_same d 256 u
     go false = all_same d 256 v
 
-unused-empty : (i : ℕ) → Unused empty i
-unused-empty i = record { no-lease = all_same 0 256 i; no-cache = all_same (pos 0) 256 i; no-messages = all_same 0 256 i }
+unused_empty : (i : ℕ) → Unused empty i
+unused_empty i = record { no_lease = all_same 0 256 i; no_cache = all_same (pos 0) 256 i; no_messages = all_same 0 256 i }
 
-pub fresh-sound : Fresh-sound
-fresh-sound b t r =
+pub fresh_sound : FreshSound
+fresh_sound b t r =
     record {
-      tree-in-rule = r;
+      tree_in_rule = r;
       low = λ u v hu hv a. rw (pair_same {A = ℕ} 0 u v) (omega arith);
       ordered = λ r u v hr hu hv a b d. rw (pair_same {A = ℕ} 0 u v) (omega arith);
-      caches-in = λ u v hu hv a. record { within = rw (pair_same (pos 0) u v) (zero-in-range _) };
+      caches_in = λ u v hu hv a. record { within = rw (pair_same (pos 0) u v) (zero_in_range _) };
       few = omega arith;
       paid = λ u v hu hv a. rw (pair_same {A = ℕ} 0 u v) (omega arith);
-      no_pairs = λ i h u. (unused-empty i, unused-empty i);
-      no-values = λ i h g. all_same (pos 0) 256 i;
+      no_pairs = λ i h u. (unused_empty i, unused_empty i);
+      no_values = λ i h g. all_same (pos 0) 256 i;
     }
 
 -- ---- what starting answers
 
 module _ (t : Tree) where
-  pub started : InRule t.parents t.count → startedOf t ≡ record { refusal = 0; session = fresh_of t }
-  unfolding startedOf
-  started r = rw ((in-rule-exactly t.parents t.count).1 r)
+  pub started : InRule t.parents t.count → started_of t ≡ record { refusal = 0; session = fresh_of t }
+  unfolding started_of
+  started r = rw ((in_rule_exactly t.parents t.count).1 r)
 
-  not-started : inRule t.parents t.count ≡ false → startedOf t ≡ record { refusal = 6; session = zeros }
-  unfolding startedOf
-  not-started e = rw e
+  not_started : in_rule t.parents t.count ≡ false → started_of t ≡ record { refusal = 6; session = zeros }
+  unfolding started_of
+  not_started e = rw e
 
-pub fresh-exactly : Fresh-exactly
-fresh-exactly t = (λ e. (in-rule-exactly t.parents t.count).0 (go (inRule t.parents t.count) refl e), λ r. rw (started t r))
+pub fresh_exactly : FreshExactly
+fresh_exactly t = (λ e. (in_rule_exactly t.parents t.count).0 (go (in_rule t.parents t.count) refl e), λ r. rw (started t r))
   where
-    go : (b : Bool) → inRule t.parents t.count ≡ b → (startedOf t).refusal ≡ 0 → inRule t.parents t.count ≡ true
+    go : (b : Bool) → in_rule t.parents t.count ≡ b → (started_of t).refusal ≡ 0 → in_rule t.parents t.count ≡ true
     go true p e = p
-    go false p e = let six : ◌≡◌ {A = ℕ} 6 0 = rw (not-started t p) at e in absurd (omega arith)
+    go false p e = let six : ◌≡◌ {A = ℕ} 6 0 = rw (not_started t p) at e in absurd (omega arith)
 
-pub fresh-refused-with-zeros : Fresh-refused-with-zeros
-fresh-refused-with-zeros t h = go (inRule t.parents t.count) refl
+pub fresh_refused_with_zeros : FreshRefusedWithZeros
+fresh_refused_with_zeros t h = go (in_rule t.parents t.count) refl
   where
-    go : (b : Bool) → inRule t.parents t.count ≡ b → startedOf t ≡ record { refusal = 6; session = zeros }
-    go true p = let none : 0 < 0 = rw (started t ((in-rule-exactly t.parents t.count).0 p)) at h in absurd (not-suc-le-zero none)
-    go false p = not-started t p
+    go : (b : Bool) → in_rule t.parents t.count ≡ b → started_of t ≡ record { refusal = 6; session = zeros }
+    go true p = let none : 0 < 0 = rw (started t ((in_rule_exactly t.parents t.count).0 p)) at h in absurd (not-suc-le-zero none)
+    go false p = not_started t p
 
 -- ---- what loading answers
 
 module _ (s : Session) (bytes : List ℕ) where
-  read-rule : (reading_of bytes).refusal ≡ 0 → InRule (reading_of bytes).tree.parents (reading_of bytes).tree.count
-  read-rule e = let j = (table-ruled-exactly bytes 0).0 e in rw (reading-accepted bytes j) (accepted-rule bytes j)
+  read_rule : (reading_of bytes).refusal ≡ 0 → InRule (reading_of bytes).tree.parents (reading_of bytes).tree.count
+  read_rule e = let j = (table_ruled_exactly bytes 0).0 e in rw (reading_accepted bytes j) (accepted_rule bytes j)
 
-  pub loads : (reading_of bytes).refusal ≡ 0 → loadedOf s bytes ≡ startedOf (reading_of bytes).tree
-  unfolding loadedOf
-  loads e = rw (eq-eqb (reading_of bytes).refusal 0 e) (sym (started (reading_of bytes).tree (read-rule e)))
+  pub loads : (reading_of bytes).refusal ≡ 0 → loaded_of s bytes ≡ started_of (reading_of bytes).tree
+  unfolding loaded_of
+  loads e = rw (eq-eqb (reading_of bytes).refusal 0 e) (sym (started (reading_of bytes).tree (read_rule e)))
 
-  pub loads-not : (reading_of bytes).refusal ≢ 0 → loadedOf s bytes ≡ record { refusal = (reading_of bytes).refusal; session = s }
-  unfolding loadedOf
-  loads-not d = rw (ne_eqb (reading_of bytes).refusal 0 d)
+  pub loads_not : (reading_of bytes).refusal ≢ 0 → loaded_of s bytes ≡ record { refusal = (reading_of bytes).refusal; session = s }
+  unfolding loaded_of
+  loads_not d = rw (ne_eqb (reading_of bytes).refusal 0 d)
 
   -- an accepted load is an accepted table
-  pub read-well : (loadedOf s bytes).refusal ≡ 0 → (reading_of bytes).refusal ≡ 0
-  read-well e = either (ℕ_discrete (reading_of bytes).refusal 0) (λ z. z) (λ d. absurd (d (rw (loads-not d) at e)))
+  pub read_well : (loaded_of s bytes).refusal ≡ 0 → (reading_of bytes).refusal ≡ 0
+  read_well e = either (ℕ_discrete (reading_of bytes).refusal 0) (λ z. z) (λ d. absurd (d (rw (loads_not d) at e)))
 
-pub load-refuses : Load-refuses
-load-refuses s bytes h = loads-not s bytes (omega arith)
+pub load_refuses : LoadRefuses
+load_refuses s bytes h = loads_not s bytes (omega arith)
 
-pub load-accepts : Load-accepts
-load-accepts s bytes t e =
+pub load_accepts : LoadAccepts
+load_accepts s bytes t e =
     let z : (reading_of bytes).refusal ≡ 0 = rw e in
-    let r : InRule t.parents t.count = rw e at (read-rule s bytes z) in
+    let r : InRule t.parents t.count = rw e at (read_rule s bytes z) in
     ((rw e at (loads s bytes z)) ∙ started t r, r)

@@ -25,14 +25,14 @@ array_long : (F : Field) (n : ℕ) (xs : List F.Value) (vs : List Val) → shado
 array_long F n xs vs a = sym (length-map xs F.into) ∙ a.1.0.1
 
 -- and each i32 has 32 bits
-each-small : (xs : List ℤ) (us : List Val) → shadow (each i32-field.row.Denot i32-field.row.own_val (map i32-field.into xs) us) → (u : ℕ) → within 32 (get_or xs u (pos 0)) ≡ true
-each-small [] us a u = refl
-each-small (x ∷ xs) [] a u = absurd a
-each-small (x ∷ xs) (v ∷ us) a zero = lt-ltb (mag x) (2 ^ 31) a.0.1
-each-small (x ∷ xs) (v ∷ us) a (suc u) = each-small xs us a.1 u
+each_small : (xs : List ℤ) (us : List Val) → shadow (each i32-field.row.Denot i32-field.row.own_val (map i32-field.into xs) us) → (u : ℕ) → within 32 (get_or xs u (pos 0)) ≡ true
+each_small [] us a u = refl
+each_small (x ∷ xs) [] a u = absurd a
+each_small (x ∷ xs) (v ∷ us) a zero = lt-ltb (mag x) (2 ^ 31) a.0.1
+each_small (x ∷ xs) (v ∷ us) a (suc u) = each_small xs us a.1 u
 
-pairs-long : (p : Pairs) (vs : List Val) → shadow (pairs-field.row.own_val (pairs-field.into p) vs) → Long p
-pairs-long p vs a =
+pairs_long : (p : Pairs) (vs : List Val) → shadow (pairs-field.row.own_val (pairs-field.into p) vs) → Long p
+pairs_long p vs a =
     record {
       leases = array_long u8-field 256 p.lease _ a.1.1.0;
       caches = array_long i64-field 256 p.cache _ a.1.1.1.0;
@@ -42,9 +42,9 @@ pairs-long p vs a =
 pub typed : (s : Session) (v : Val) → Is (row the_type) s (v ∷ []) → Typed s
 typed s v a =
     record {
-      parents-long = array_long u8-field 256 s.tree.parents _ a.1.1.0.1.1.1.0;
-      values-long = array_long i32-field 256 s.values _ a.1.1.1.0;
-      values-small = each-small s.values _ a.1.1.1.0.1.1;
-      up-long = pairs-long s.up _ a.1.1.1.1.0;
-      down-long = pairs-long s.down _ a.1.1.1.1.1.0;
+      parents_long = array_long u8-field 256 s.tree.parents _ a.1.1.0.1.1.1.0;
+      values_long = array_long i32-field 256 s.values _ a.1.1.1.0;
+      values_small = each_small s.values _ a.1.1.1.0.1.1;
+      up_long = pairs_long s.up _ a.1.1.1.1.0;
+      down_long = pairs_long s.down _ a.1.1.1.1.1.0;
     }

@@ -13,14 +13,14 @@ abbrev pub value_of : Session → ℕ → ℤ
 value_of s u = get_or s.values u (pos 0)
 
 -- the lease number of the pair (u,v), v's cached value for u's side, and the messages of the pair sent so far
-abbrev pub leaseOf : Session → ℕ → ℕ → ℕ
-leaseOf s u v = pair_at 0 s.up.lease s.down.lease u v
+abbrev pub lease_of : Session → ℕ → ℕ → ℕ
+lease_of s u v = pair_at 0 s.up.lease s.down.lease u v
 
-abbrev pub cacheOf : Session → ℕ → ℕ → ℤ
-cacheOf s u v = pair_at (pos 0) s.up.cache s.down.cache u v
+abbrev pub cache_of : Session → ℕ → ℕ → ℤ
+cache_of s u v = pair_at (pos 0) s.up.cache s.down.cache u v
 
-abbrev pub sentOf : Session → ℕ → ℕ → ℕ
-sentOf s u v = pair_at 0 s.up.messages s.down.messages u v
+abbrev pub sent_of : Session → ℕ → ℕ → ℕ
+sent_of s u v = pair_at 0 s.up.messages s.down.messages u v
 
 -- Room is kept for 256 nodes, and values have 32 bits: what every session has by its type.
 pub record Long (p : Pairs) : Type 0 where
@@ -29,8 +29,8 @@ pub record Long (p : Pairs) : Type 0 where
   pub counts : length p.messages ≡ 256
 
 pub record Typed (s : Session) : Type 0 where
-  pub parents-long : length s.tree.parents ≡ 256
-  pub values-long : length s.values ≡ 256
-  pub values-small : (u : ℕ) → within 32 (value_of s u) ≡ true
-  pub up-long : Long s.up
-  pub down-long : Long s.down
+  pub parents_long : length s.tree.parents ≡ 256
+  pub values_long : length s.values ≡ 256
+  pub values_small : (u : ℕ) → within 32 (value_of s u) ≡ true
+  pub up_long : Long s.up
+  pub down_long : Long s.down

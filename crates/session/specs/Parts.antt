@@ -2,8 +2,8 @@
 use Rattle.std.specs.Prelude.{List, ℕ, ℤ}
 use Rattle.session.specs.declared.Session.{Session}
 
-abbrev pub sessionBy : ℕ → List ℕ → List ℤ → List ℕ → List ℤ → List ℕ → List ℕ → List ℤ → List ℕ → ℕ → Session
-sessionBy n ps vs ul uc um dl dc dm a =
+abbrev pub session_by : ℕ → List ℕ → List ℤ → List ℕ → List ℤ → List ℕ → List ℕ → List ℤ → List ℕ → ℕ → Session
+session_by n ps vs ul uc um dl dc dm a =
     record {
       tree = record { count = n; parents = ps };
       values = vs;

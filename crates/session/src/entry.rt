@@ -63,7 +63,7 @@ fn counts(end: usize, most: u32, messages: &[u32; 256]) -> bool
 // Whether each cache of the nodes from 1 on is in the range of its pair's near side.
 fn caches<'a>(count: u16, down: bool, sizes: &'a [u16; 256], cache: &'a [i64; 256]) -> bool
     requires { (1 ≤ count) × (count ≤ 256) }
-    ensures { result ≡ every (from 1 (λ i. in_range (pass.nearSize count down (get_or sizes.now i 0)) (get_or cache.now i (pos 0)))) count }
+    ensures { result ≡ every (from 1 (λ i. in_range (pass.near_size count down (get_or sizes.now i 0)) (get_or cache.now i (pos 0)))) count }
 {
     let n = count as usize;
     let mut good = true;
@@ -145,7 +145,7 @@ fn in_range(k: u16, z: i64) -> bool
 
 // How many nodes are on the near side of a pair, of so many below its child.
 fn near_size(count: u16, down: bool, size: u16) -> u16
-    ensures { result ≡ pass.nearSize count down size }
+    ensures { result ≡ pass.near_size count down size }
 {
     if down {
         return rest(count, size);

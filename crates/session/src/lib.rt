@@ -6,10 +6,10 @@ mod entry; // the entries of pairs and values
 mod order; // the inequality between neighbouring pairs
 
 ghost use Rattle.std.specs.Prelude.{◌≡◌, length};
-ghost use Rattle.session.specs.Parts.{sessionBy};
+ghost use Rattle.session.specs.Parts.{session_by};
 ghost use Rattle.session.specs.Soundness.{sound};
-ghost use Rattle.session.specs.Starting.{startedOf, loadedOf};
-ghost use Rattle.session.specs.Tables.{written_of, outputOf};
+ghost use Rattle.session.specs.Starting.{started_of, loaded_of};
+ghost use Rattle.session.specs.Tables.{written_of, output_of};
 
 use table::Written;
 use tree::Tree;
@@ -51,7 +51,7 @@ impl Session {
     // A session that has zeros in all but the tree. Refusal: 6 the tree is out of rule; the session
     // then has zeros alone.
     pub fn fresh(tree: Tree) -> Started
-        ensures { result ≡ startedOf tree }
+        ensures { result ≡ started_of tree }
     {
         if tree.in_rule() {
             return Started {
@@ -71,7 +71,7 @@ impl Session {
     // A fresh session of the tree of a table. Refusals: those of the table; the session is then the
     // one that it would replace.
     pub fn load(self, bytes: &[u8]) -> Started
-        ensures { result ≡ loadedOf self bytes.now }
+        ensures { result ≡ loaded_of self bytes.now }
     {
         let reading = table::read(bytes);
         if reading.refusal == 0 {
@@ -105,7 +105,7 @@ impl Session {
     // Refusals: 6 the session is unsound, 9 the output is too short. Where writing is refused, nothing
     // is changed.
     pub fn write_table(self, out: &mut [u8]) -> Written
-        ensures { (result ≡ written_of self (length out.old)) × (out.new ≡ outputOf self out.old) }
+        ensures { (result ≡ written_of self (length out.old)) × (out.new ≡ output_of self out.old) }
     {
         if self.is_sound() {
             return table::write(self.tree, out);
@@ -131,7 +131,7 @@ pub fn parts_are_sound<'a>(
     down_messages: &'a [u32; 256],
     accepted: u32,
 ) -> bool
-    ensures { result ≡ sound 2 (sessionBy count parents.now values.now up_lease.now up_cache.now up_messages.now down_lease.now down_cache.now down_messages.now accepted) }
+    ensures { result ≡ sound 2 (session_by count parents.now values.now up_lease.now up_cache.now up_messages.now down_lease.now down_cache.now down_messages.now accepted) }
 {
     full(parents);
     full(up_lease);

@@ -2,24 +2,24 @@
 use Rattle.std.specs.Prelude.{ℕ, zero, suc, ◌+◌, ◌-◌, List}
 use Rattle.std.specs.Int.Count.{count_leading_zeros}
 use Rattle.fields.specs.Fields.{field}
-use Rattle.packed.specs.Parts.{bytesFor}
+use Rattle.packed.specs.Parts.{bytes_for}
 
 -- how long k is in binary; 0 has no digits
 unfoldable pub long : ℕ → ℕ
 long k = 64 - count_leading_zeros 64 k
 
--- where the parent of node k + 1 begins; parentPlace (n - 1) is where the fields of n nodes end
-unfoldable pub parentPlace : ℕ → ℕ
-parentPlace zero = 9
-parentPlace (suc k) = parentPlace k + long k
+-- where the parent of node k + 1 begins; parent_place (n - 1) is where the fields of n nodes end
+unfoldable pub parent_place : ℕ → ℕ
+parent_place zero = 9
+parent_place (suc k) = parent_place k + long k
 
 -- how many bytes the table of n nodes takes
-abbrev pub tableSize : ℕ → ℕ
-tableSize n = bytesFor (parentPlace (n - 1))
+abbrev pub table_size : ℕ → ℕ
+table_size n = bytes_for (parent_place (n - 1))
 
 -- the count that stands in a table, and the parent of node k + 1
-abbrev pub countAt : List ℕ → ℕ
-countAt s = field s 0 9
+abbrev pub count_at : List ℕ → ℕ
+count_at s = field s 0 9
 
-abbrev pub parentAt : List ℕ → ℕ → ℕ
-parentAt s k = field s (parentPlace k) (long k)
+abbrev pub parent_at : List ℕ → ℕ → ℕ
+parent_at s k = field s (parent_place k) (long k)

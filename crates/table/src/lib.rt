@@ -8,7 +8,7 @@ mod writer; // from a tree to bytes
 
 ghost use Rattle.std.specs.Prelude.{◌≡◌, length};
 ghost use Rattle.table.specs.Reading.{reading_of};
-ghost use Rattle.table.specs.Writing.{written_of, outputOf};
+ghost use Rattle.table.specs.Writing.{written_of, output_of};
 
 use tree::Tree;
 
@@ -50,7 +50,7 @@ pub fn read(bytes: &[u8]) -> Reading
 // tree is out of rule, 9 the output is too short. Where writing is refused, nothing
 // is changed.
 pub fn write(tree: Tree, out: &mut [u8]) -> Written
-    ensures { (result ≡ written_of tree (length out.old)) × (out.new ≡ outputOf tree out.old) }
+    ensures { (result ≡ written_of tree (length out.old)) × (out.new ≡ output_of tree out.old) }
 {
     if !tree.in_rule() {
         return Written {

@@ -2,15 +2,15 @@
 ghost use Rattle.std.specs.Prelude.{◌≡◌, ◌++◌, ◌≤◌, ◌-◌, ◌*◌, length, drop, replicate};
 ghost use Rattle.packed.specs.Parts.{put_all};
 ghost use Rattle.tree.specs.Parents.{Grown};
-ghost use Rattle.table.specs.Layout.{parentPlace, tableSize};
-ghost use Rattle.table.specs.Writing.{nodeParts};
+ghost use Rattle.table.specs.Layout.{parent_place, table_size};
+ghost use Rattle.table.specs.Writing.{node_parts};
 
 use crate::width;
 
 // How many bytes the table of so many nodes takes.
 pub fn table_size(count: usize) -> usize
     requires { (1 ≤ count) × (count ≤ 256) }
-    ensures { result ≡ tableSize count }
+    ensures { result ≡ table_size count }
 {
     let mut place: usize = 9;
     let mut k: usize = 0;
@@ -35,8 +35,8 @@ pub fn clear(out: &mut [u8], bytes: usize)
 
 // Writes the parents of nodes 1 to count - 1, each in its place.
 pub fn parents(out: &mut [u8], parents: &[u8; 256], count: usize)
-    requires { (1 ≤ count) × ((count ≤ 256) × (Grown parents.now count × (parentPlace (count - 1) ≤ 8 * length out.old))) }
-    ensures { out.new ≡ put_all out.old 9 (nodeParts parents.now 0 (count - 1)) }
+    requires { (1 ≤ count) × ((count ≤ 256) × (Grown parents.now count × (parent_place (count - 1) ≤ 8 * length out.old))) }
+    ensures { out.new ≡ put_all out.old 9 (node_parts parents.now 0 (count - 1)) }
 {
     let mut place: usize = 9;
     let mut k: usize = 0;

@@ -5,8 +5,8 @@ use Rattle.trace.specs.inner.Traces.{Trace}
 use Rattle.trace.proofs.push.Reads as push
 use Rattle.trace.proofs.log.Reads as log
 
-pub push-once : OneOutcome push.Post (λ κ s. s.0.now)
-push-once κ a x y s t p q = let e = p ∙ sym q in (ap (λ (o : Trace). o.len) e, ap (λ (o : Trace). o.numbers) e)
+pub push_once : OneOutcome push.Post (λ κ s. s.0.now)
+push_once κ a x y s t p q = let e = p ∙ sym q in (ap (λ (o : Trace). o.len) e, ap (λ (o : Trace). o.numbers) e)
 
-pub log-once : OneOutcome log.Post (λ κ s. s.0.now)
-log-once κ a x y s t p q = (p.0 ∙ sym q.0, p.1 ∙ sym q.1)
+pub log_once : OneOutcome log.Post (λ κ s. s.0.now)
+log_once κ a x y s t p q = (p.0 ∙ sym q.0, p.1 ∙ sym q.1)

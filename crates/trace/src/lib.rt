@@ -3,7 +3,7 @@
 // Every public function is total: it takes whatever it is handed and has one outcome. A trace has room
 // for 510 messages, and of a length above that only 510 are ever used.
 ghost use Rattle.std.specs.Prelude.{◌≡◌, ◌≤◌, min, length};
-ghost use Rattle.messages.specs.Writing.{bitsOfAll};
+ghost use Rattle.messages.specs.Writing.{bits_of_all};
 ghost use Rattle.trace.specs.inner.Traces as spec;
 
 use messages::{Coded, Message, Recorded};
@@ -34,7 +34,7 @@ pub fn push(trace: &mut [u64; 510], len: usize, message: Message) -> usize
 
 // Logs the first len messages from place on, all of them or none.
 pub fn log(log: &mut [u8], place: usize, trace: &[u64; 510], len: usize) -> Logged
-    ensures { (result ≡ spec.loggedOf (length log.old) place (spec.messagesOf trace.now len)) × (log.new ≡ spec.logAfterAll log.old place (spec.messagesOf trace.now len)) }
+    ensures { (result ≡ spec.logged_of (length log.old) place (spec.messages_of trace.now len)) × (log.new ≡ spec.log_after_all log.old place (spec.messages_of trace.now len)) }
 {
     let end = fields::usable_bits(log.len());
     if end < place {
@@ -48,7 +48,7 @@ pub fn log(log: &mut [u8], place: usize, trace: &[u64; 510], len: usize) -> Logg
 
 // How many bits the records of the first len messages have.
 fn bits(trace: &[u64; 510], len: usize) -> usize
-    ensures { result ≡ bitsOfAll (spec.messagesOf trace.now len) }
+    ensures { result ≡ bits_of_all (spec.messages_of trace.now len) }
 {
     let end = most(len);
     let mut bits = 0;
@@ -63,7 +63,7 @@ fn bits(trace: &[u64; 510], len: usize) -> usize
 // Logs the first len messages from place on, and answers the place after them. A message that is
 // refused is left out.
 fn record(log: &mut [u8], place: usize, trace: &[u64; 510], len: usize) -> usize
-    ensures { spec.writing log.new result ≡ spec.notedAll (spec.messagesOf trace.now len) (spec.writing log.old place) }
+    ensures { spec.writing log.new result ≡ spec.noted_all (spec.messages_of trace.now len) (spec.writing log.old place) }
 {
     let end = most(len);
     let mut at = place;

@@ -22,26 +22,26 @@ below_root ps i = refl
 
 -- the turns of a climb, in any list of parents
 module _ (ps : List ℕ) (i : ℕ) where
-  pub climb-ends : (j : ℕ) → climb ps i 0 j ≡ eqb j i
+  pub climb_ends : (j : ℕ) → climb ps i 0 j ≡ eqb j i
   unfolding climb
-  climb-ends j = refl
+  climb_ends j = refl
 
-  pub climb-root : (k : ℕ) → climb ps i k 0 ≡ eqb 0 i
+  pub climb_root : (k : ℕ) → climb ps i k 0 ≡ eqb 0 i
   unfolding climb
-  climb-root zero = refl
-  climb-root (suc k) = refl
+  climb_root zero = refl
+  climb_root (suc k) = refl
 
-  pub climb-meets : (k j : ℕ) → j ≡ i → climb ps i k j ≡ true
+  pub climb_meets : (k j : ℕ) → j ≡ i → climb ps i k j ≡ true
   unfolding climb
-  climb-meets zero j e = eq-eqb j i e
-  climb-meets (suc k) zero e = eq-eqb zero i e
-  climb-meets (suc k) (suc j) e = rw (eq-eqb (suc j) i e)
+  climb_meets zero j e = eq-eqb j i e
+  climb_meets (suc k) zero e = eq-eqb zero i e
+  climb_meets (suc k) (suc j) e = rw (eq-eqb (suc j) i e)
 
-  pub climb-on : (k j : ℕ) → 0 < k → 0 < j → j ≢ i → climb ps i k j ≡ climb ps i (k - 1) (parent ps j)
+  pub climb_on : (k j : ℕ) → 0 < k → 0 < j → j ≢ i → climb ps i k j ≡ climb ps i (k - 1) (parent ps j)
   unfolding climb
-  climb-on zero j z h d = absurd (not-suc-le-zero z)
-  climb-on (suc k) zero z h d = absurd (not-suc-le-zero h)
-  climb-on (suc k) (suc j) z h d = let e : suc k - 1 ≡ k = omega arith in rw (ne_eqb (suc j) i d, e)
+  climb_on zero j z h d = absurd (not-suc-le-zero z)
+  climb_on (suc k) zero z h d = absurd (not-suc-le-zero h)
+  climb_on (suc k) (suc j) z h d = let e : suc k - 1 ≡ k = omega arith in rw (ne_eqb (suc j) i d, e)
 
 module _ (ps : List ℕ) (n : ℕ) (grown : Grown ps n) where
   -- more steps than the node's number find nothing more
@@ -72,8 +72,8 @@ module _ (ps : List ℕ) (n : ℕ) (grown : Grown ps n) where
   pub inherited : (P : ℕ → Type 0) → ((j : ℕ) → j < n → (0 < j → P (parent ps j)) → P j) → (j : ℕ) → j < n → P j
   inherited P s j = descends P s j j (le_refl j)
 
-  pub below-lt : (i j : ℕ) → j < n → j < i → below ps i j ≡ false
-  below-lt i = inherited (λ j. j < i → below ps i j ≡ false) step
+  pub below_lt : (i j : ℕ) → j < n → j < i → below ps i j ≡ false
+  below_lt i = inherited (λ j. j < i → below ps i j ≡ false) step
     where
       step : (j : ℕ) → j < n → (0 < j → parent ps j < i → below ps i (parent ps j) ≡ false) → j < i → below ps i j ≡ false
       step zero h r l = rw (below_root ps i) (ne_eqb zero i (omega arith))

@@ -12,8 +12,8 @@ either (no a) f g = g a
 pub order {ℓ} : {X : Type ℓ} (a b : ℕ) → (a < b → X) → (a ≡ b → X) → (b < a → X) → X
 order a b f g h = either (dec_lt a b) f (λ p. either (ℕ_discrete a b) g (λ q. h (omega arith)))
 
-pub lt-or-le {ℓ} : {X : Type ℓ} (a b : ℕ) → (a < b → X) → (b ≤ a → X) → X
-lt-or-le a b f g = either (dec_lt a b) f (λ p. g (omega arith))
+pub lt_or_le {ℓ} : {X : Type ℓ} (a b : ℕ) → (a < b → X) → (b ≤ a → X) → X
+lt_or_le a b f g = either (dec_lt a b) f (λ p. g (omega arith))
 
 pub never : (b : Bool) → (b ≡ true → ⊥) → b ≡ false
 never true f = absurd (f refl)

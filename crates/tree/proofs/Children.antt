@@ -9,11 +9,11 @@ use borrow.Author.Tests.{lt-ltb, le-ltb, ne_eqb}
 use Rattle.tree.specs.Parents.{parent, child}
 
 module _ (ps : List ℕ) (u w : ℕ) where
-  pub child-is : u < w → child ps u w ≡ eqb (parent ps w) u
-  child-is h = rw (lt-ltb u w h)
+  pub child_is : u < w → child ps u w ≡ eqb (parent ps w) u
+  child_is h = rw (lt-ltb u w h)
 
-  pub child-low : w ≤ u → child ps u w ≡ false
-  child-low h = rw (le-ltb u w h)
+  pub child_low : w ≤ u → child ps u w ≡ false
+  child_low h = rw (le-ltb u w h)
 
-  pub child-other : u ≢ parent ps w → child ps u w ≡ false
-  child-other d = rw (ne_eqb (parent ps w) u (λ e. d (sym e)), and-false)
+  pub child_other : u ≢ parent ps w → child ps u w ≡ false
+  child_other d = rw (ne_eqb (parent ps w) u (λ e. d (sym e)), and-false)

@@ -9,31 +9,31 @@ use native.Mathlib.Omega.{arith}
 use borrow.Author.Tests.{lt-ltb, le-ltb}
 use Rattle.tree.specs.inner.Places.{from, places}
 use Rattle.tree.specs.Every.{every}
-use Rattle.tree.proofs.Cases.{order, lt-or-le}
+use Rattle.tree.proofs.Cases.{order, lt_or_le}
 
 module _ (test : ℕ → Bool) where
-  pub every-none : every test 0 ≡ true
+  pub every_none : every test 0 ≡ true
   unfolding every
-  every-none = refl
+  every_none = refl
 
   pub every_more : (i : ℕ) → every test i ≡ true → test i ≡ true → every test (i + 1) ≡ true
   unfolding every
   every_more i h e = rw add-one (ap₂ ◌&&◌ h e)
 
-  pub every-fails : (i n : ℕ) → i < n → test i ≡ false → every test n ≡ false
+  pub every_fails : (i n : ℕ) → i < n → test i ≡ false → every test n ≡ false
   unfolding every
-  every-fails i zero h e = absurd (not-suc-le-zero h)
-  every-fails i (suc n) h e = order i n
-      (λ l. ap (λ b. b && test n) (every-fails i n l e))
+  every_fails i zero h e = absurd (not-suc-le-zero h)
+  every_fails i (suc n) h e = order i n
+      (λ l. ap (λ b. b && test n) (every_fails i n l e))
       (λ q. ap (λ b. every test n && b) (ap test (sym q) ∙ e) ∙ and-false (every test n))
       (λ l. absurd (omega arith))
 
-  pub every-at : (n i : ℕ) → every test n ≡ true → i < n → test i ≡ true
+  pub every_at : (n i : ℕ) → every test n ≡ true → i < n → test i ≡ true
   unfolding every
-  every-at zero i e h = absurd (not-suc-le-zero h)
-  every-at (suc n) i e h =
+  every_at zero i e h = absurd (not-suc-le-zero h)
+  every_at (suc n) i e h =
       let b = (and-eq-true_iff (every test n) (test n)).0 e in
-      order i n (λ l. every-at n i b.0 l) (λ q. ap test q ∙ b.1) (λ l. absurd (omega arith))
+      order i n (λ l. every_at n i b.0 l) (λ q. ap test q ∙ b.1) (λ l. absurd (omega arith))
 
   pub every_of : (n : ℕ) → ((i : ℕ) → i < n → test i ≡ true) → every test n ≡ true
   unfolding every
@@ -48,13 +48,13 @@ module _ (test : ℕ → Bool) where
 
 module _ (k : ℕ) (test : ℕ → Bool) where
   pub from_at : (n i : ℕ) → every (from k test) n ≡ true → i < n → k ≤ i → test i ≡ true
-  from_at n i e h l = rw (le-ltb i k l) at (every-at (from k test) n i e h)
+  from_at n i e h l = rw (le-ltb i k l) at (every_at (from k test) n i e h)
 
-  pub from-of : (n : ℕ) → ((i : ℕ) → i < n → k ≤ i → test i ≡ true) → every (from k test) n ≡ true
-  from-of n f = every_of (from k test) n (λ i h. lt-or-le i k (λ l. rw (lt-ltb i k l)) (λ l. rw (le-ltb i k l) (f i h l)))
+  pub from_of_lem : (n : ℕ) → ((i : ℕ) → i < n → k ≤ i → test i ≡ true) → every (from k test) n ≡ true
+  from_of_lem n f = every_of (from k test) n (λ i h. lt_or_le i k (λ l. rw (lt-ltb i k l)) (λ l. rw (le-ltb i k l) (f i h l)))
 
-  pub from-none : true ≡ every (from k test) k
-  from-none = sym (from-of k (λ i h l. absurd (omega arith)))
+  pub from_none : true ≡ every (from k test) k
+  from_none = sym (from_of_lem k (λ i h l. absurd (omega arith)))
 
 -- used and unused places
 module _ (n : ℕ) (used unused : ℕ → Bool) where
@@ -63,18 +63,18 @@ module _ (n : ℕ) (used unused : ℕ → Bool) where
       let p = (and-eq-true_iff (every (from 0 unused) 1 && every (from 1 used) n) (every (from n unused) 256)).0 e in
       ((and-eq-true_iff (every (from 0 unused) 1) (every (from 1 used) n)).0 p.0, p.1)
 
-  pub used-at : places n used unused ≡ true → (i : ℕ) → 0 < i → i < n → used i ≡ true
-  used-at e i z h = from_at 1 used n i (apart e).0.1 h z
+  pub used_at : places n used unused ≡ true → (i : ℕ) → 0 < i → i < n → used i ≡ true
+  used_at e i z h = from_at 1 used n i (apart e).0.1 h z
 
-  pub unused-at : places n used unused ≡ true → (i : ℕ) → i < 256 → (i ≡ 0) ⊎ (n ≤ i) → unused i ≡ true
-  unused-at e i h (inl o) = from_at 0 unused 1 i (apart e).0.0 (omega arith) (omega arith)
-  unused-at e i h (inr l) = from_at n unused 256 i (apart e).1 h l
+  pub unused_at : places n used unused ≡ true → (i : ℕ) → i < 256 → (i ≡ 0) ⊎ (n ≤ i) → unused i ≡ true
+  unused_at e i h (inl o) = from_at 0 unused 1 i (apart e).0.0 (omega arith) (omega arith)
+  unused_at e i h (inr l) = from_at n unused 256 i (apart e).1 h l
 
   pub places_of : ((i : ℕ) → 0 < i → i < n → used i ≡ true) → ((i : ℕ) → i < 256 → (i ≡ 0) ⊎ (n ≤ i) → unused i ≡ true) → places n used unused ≡ true
   places_of f g =
       ap₂ ◌&&◌
-      (ap₂ ◌&&◌ (from-of 0 unused 1 (λ i h l. g i (omega arith) (inl (omega arith)))) (from-of 1 used n (λ i h l. f i l h)))
-      (from-of n unused 256 (λ i h l. g i h (inr l)))
+      (ap₂ ◌&&◌ (from_of_lem 0 unused 1 (λ i h l. g i (omega arith) (inl (omega arith)))) (from_of_lem 1 used n (λ i h l. f i l h)))
+      (from_of_lem n unused 256 (λ i h l. g i h (inr l)))
 
 -- two tests that hold together are equal
 pub same_test : (a b : Bool) → (a ≡ true → b ≡ true) → (b ≡ true → a ≡ true) → a ≡ b

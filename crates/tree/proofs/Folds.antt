@@ -86,8 +86,8 @@ module _ {A : Type 0} (op : Op A) where
   same_nodes P Q f n h = same (λ j. pick op (P j) (f j)) (λ j. pick op (Q j) (f j)) n (λ j l. ap (λ b. pick op b (f j)) (h j l))
 
   -- the same values at those nodes
-  pub same-where : (P : ℕ → Bool) (f g : ℕ → A) (n : ℕ) → ((j : ℕ) → j < n → P j ≡ true → f j ≡ g j) → aggregate op f P n ≡ aggregate op g P n
-  same-where P f g n h = same (λ j. pick op (P j) (f j)) (λ j. pick op (P j) (g j)) n (λ j l. one (P j) (f j) (g j) (h j l))
+  pub same_where : (P : ℕ → Bool) (f g : ℕ → A) (n : ℕ) → ((j : ℕ) → j < n → P j ≡ true → f j ≡ g j) → aggregate op f P n ≡ aggregate op g P n
+  same_where P f g n h = same (λ j. pick op (P j) (f j)) (λ j. pick op (P j) (g j)) n (λ j l. one (P j) (f j) (g j) (h j l))
     where
       one : (b : Bool) (x y : A) → (b ≡ true → x ≡ y) → pick op b x ≡ pick op b y
       one true x y e = e refl
@@ -108,7 +108,7 @@ module _ {A : Type 0} (op : Op A) where
       → aggregate op f P n ≡ f u ⊕ aggregate op f (λ j. not (eqb j u) && P j) n
   pull P f n u h t =
       alike (λ j. pick op (P j) (f j)) (λ j. here j ⊕ rest j) n (λ j l. one j (ℕ_discrete j u))
-      ∙ split here rest n ∙ cc (only here n u h (λ j l d. rw (ne_eqb j u d)), at-u, assoc (f u) ε (fold op rest n), comm ε (fold op rest n), absorb rest n)
+      ∙ split here rest n ∙ cc (only here n u h (λ j l d. rw (ne_eqb j u d)), at_u, assoc (f u) ε (fold op rest n), comm ε (fold op rest n), absorb rest n)
     where
       here : ℕ → A
       here j = pick op (eqb j u) (f j)
@@ -116,8 +116,8 @@ module _ {A : Type 0} (op : Op A) where
       rest : ℕ → A
       rest j = pick op (not (eqb j u) && P j) (f j)
 
-      at-u : here u ≡ f u
-      at-u = rw (eq-eqb u u refl)
+      at_u : here u ≡ f u
+      at_u = rw (eq-eqb u u refl)
 
       one : (j : ℕ) → Dec (j ≡ u) → pick op (P j) (f j) ⊕ ε ≡ (here j ⊕ rest j) ⊕ ε
       one j (yes e) = rw (eq-eqb j u e, ap P e ∙ t) (cc (assoc (f j) ε ε, idem))

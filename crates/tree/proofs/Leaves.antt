@@ -9,9 +9,9 @@ use lib.Dec.{eqb, ltb}
 use borrow.Author.Tests.{lt-ltb, le-ltb, eq-eqb, ne_eqb}
 use Rattle.tree.specs.Parents.{parent, Grown}
 use Rattle.tree.specs.Sides.{below, adjacent, side}
-use Rattle.tree.specs.Leaves.{Joins, Goes, newNumber, oldNumber}
-use Rattle.tree.specs.Promises.{Join-grown, Join-adjacent, Join-side, Join-leaf, Go-grown, Go-adjacent, Go-side}
-use Rattle.tree.proofs.Cases.{either, order, lt-or-le}
+use Rattle.tree.specs.Leaves.{Joins, Goes, new_number, old_number}
+use Rattle.tree.specs.Promises.{JoinGrown, JoinAdjacent, JoinSide, JoinLeaf, GoGrown, GoAdjacent, GoSide}
+use Rattle.tree.proofs.Cases.{either, order, lt_or_le}
 use Rattle.tree.proofs.Below.{below_root, below_step, inherited}
 
 -- ONE LAW FOR RENUMBERING: a map σ of the nodes of the tree qs into those of ps that keeps the root, the parents and the order keeps neighbours and sides
@@ -29,8 +29,8 @@ module _ (ps : List ℕ) (n : ℕ) (grown : Grown ps n) (qs : List ℕ) (m : ℕ
       (λ e. rw e (eq-eqb (σ j) (σ j) refl ∙ sym (eq-eqb j j refl)))
       (λ l. ne_eqb (σ i) (σ j) (omega (arith, ordered j i l)) ∙ sym (ne_eqb i j (omega arith)))
 
-  below-map : (i j : ℕ) → j < m → below ps (σ i) (σ j) ≡ below qs i j
-  below-map i = inherited qs m grown' (λ j. below ps (σ i) (σ j) ≡ below qs i j) step
+  below_map : (i j : ℕ) → j < m → below ps (σ i) (σ j) ≡ below qs i j
+  below_map i = inherited qs m grown' (λ j. below ps (σ i) (σ j) ≡ below qs i j) step
     where
       step : (j : ℕ) → j < m → (0 < j → below ps (σ i) (σ (parent qs j)) ≡ below qs i (parent qs j)) → below ps (σ i) (σ j) ≡ below qs i j
       step zero h r = ap (below ps (σ i)) root ∙ below_root ps (σ i) ∙ ap (λ a. eqb a (σ i)) (sym root) ∙ equal 0 i ∙ sym (below_root qs i)
@@ -39,17 +39,17 @@ module _ (ps : List ℕ) (n : ℕ) (grown : Grown ps n) (qs : List ℕ) (m : ℕ
           let t = there (suc j) z h in
           rw (below_step ps n grown (σ i) (σ (suc j)) t.0 t.1, below_step qs m grown' i (suc j) z h, t.2, equal (suc j) i, r z)
 
-  side-map : (u v j : ℕ) → j < m → side qs u v j ≡ side ps (σ u) (σ v) (σ j)
-  side-map u v j h = rw (less v u, below-map u j h, below-map v j h)
+  side_map : (u v j : ℕ) → j < m → side qs u v j ≡ side ps (σ u) (σ v) (σ j)
+  side_map u v j h = rw (less v u, below_map u j h, below_map v j h)
 
-  adjacent-map : (u v : ℕ) → u < m → v < m → adjacent qs u v ≡ adjacent ps (σ u) (σ v)
-  adjacent-map u v hu hv = order u v
+  adjacent_map : (u v : ℕ) → u < m → v < m → adjacent qs u v ≡ adjacent ps (σ u) (σ v)
+  adjacent_map u v hu hv = order u v
       (λ l. rw (lt-ltb u v l, lt-ltb (σ u) (σ v) (ordered u v l), (there v (omega arith) hv).2, equal (parent qs v) u))
       (λ e. rw (le-ltb u v (omega arith), le-ltb v u (omega arith), less u v, less v u, le-ltb u v (omega arith), le-ltb v u (omega arith)))
       (λ l. rw (le-ltb u v (omega arith), lt-ltb v u l, less u v, less v u, le-ltb u v (omega arith), lt-ltb v u l, (there u (omega arith) hu).2, equal (parent qs u) v))
 
-pub join-grown : Join-grown
-join-grown ps n p qs grown joins i z h = either (ℕ_discrete i n)
+pub join_grown : JoinGrown
+join_grown ps n p qs grown joins i z h = either (ℕ_discrete i n)
     (λ e. omega (arith, ap (parent qs) e, joins.new, joins.there))
     (λ d. omega (arith, joins.old i (omega arith), grown i z (omega arith)))
 
@@ -58,58 +58,58 @@ module _ (ps : List ℕ) (n p : ℕ) (qs : List ℕ) (grown : Grown ps n) (joins
   stays j z h = (z, omega arith, joins.old j h)
 
   below_old : (i j : ℕ) → j < n → below qs i j ≡ below ps i j
-  below_old = below-map qs (suc n) (join-grown ps n p qs grown joins) ps n grown (λ j. j) refl stays (λ i j l. l)
+  below_old = below_map qs (suc n) (join_grown ps n p qs grown joins) ps n grown (λ j. j) refl stays (λ i j l. l)
 
-  below-leaf : (i : ℕ) → i < n → below qs i n ≡ below ps i p
-  below-leaf i h = rw (below_step qs (suc n) (join-grown ps n p qs grown joins) i n (omega arith) (omega arith), ne_eqb n i (omega arith), joins.new) (below_old i p joins.there)
+  below_leaf : (i : ℕ) → i < n → below qs i n ≡ below ps i p
+  below_leaf i h = rw (below_step qs (suc n) (join_grown ps n p qs grown joins) i n (omega arith) (omega arith), ne_eqb n i (omega arith), joins.new) (below_old i p joins.there)
 
-pub join-adjacent : Join-adjacent
-join-adjacent ps n p qs grown joins u v hu hv =
-    sym (adjacent-map qs (suc n) (join-grown ps n p qs grown joins) ps n grown (λ j. j) refl (stays ps n p qs grown joins) (λ i j l. l) u v hu hv)
+pub join_adjacent : JoinAdjacent
+join_adjacent ps n p qs grown joins u v hu hv =
+    sym (adjacent_map qs (suc n) (join_grown ps n p qs grown joins) ps n grown (λ j. j) refl (stays ps n p qs grown joins) (λ i j l. l) u v hu hv)
 
-pub join-side : Join-side
-join-side ps n p qs grown joins u v j hu hv h = rw (below_old ps n p qs grown joins u j h, below_old ps n p qs grown joins v j h)
+pub join_side : JoinSide
+join_side ps n p qs grown joins u v j hu hv h = rw (below_old ps n p qs grown joins u j h, below_old ps n p qs grown joins v j h)
 
-pub join-leaf : Join-leaf
-join-leaf ps n p qs grown joins u v hu hv = rw (below-leaf ps n p qs grown joins u hu, below-leaf ps n p qs grown joins v hv)
+pub join_leaf : JoinLeaf
+join_leaf ps n p qs grown joins u v hu hv = rw (below_leaf ps n p qs grown joins u hu, below_leaf ps n p qs grown joins v hv)
 
 -- ---- a leaf goes
 
-raised-cases : {X : Type 0} (x j : ℕ) → (j < x → oldNumber x j ≡ j → X) → (x ≤ j → oldNumber x j ≡ suc j → X) → X
-raised-cases x j f g = lt-or-le j x (λ a. f a (rw (lt-ltb j x a))) (λ a. g a (rw (le-ltb j x a)))
+raised_cases : {X : Type 0} (x j : ℕ) → (j < x → old_number x j ≡ j → X) → (x ≤ j → old_number x j ≡ suc j → X) → X
+raised_cases x j f g = lt_or_le j x (λ a. f a (rw (lt-ltb j x a))) (λ a. g a (rw (le-ltb j x a)))
 
-raised-lowered : (x y : ℕ) → y ≢ x → oldNumber x (newNumber x y) ≡ y
-raised-lowered x y d = order y x
+raised_lowered : (x y : ℕ) → y ≢ x → old_number x (new_number x y) ≡ y
+raised_lowered x y d = order y x
     (λ a. rw (le-ltb x y (omega arith), lt-ltb y x a))
     (λ e. absurd (d e))
     (λ a. rw (lt-ltb x y a, le-ltb (y - 1) x (omega arith)) (omega arith))
 
-raised-ordered : (x i j : ℕ) → i < j → oldNumber x i < oldNumber x j
-raised-ordered x i j l = raised-cases x i
-    (λ a e. raised-cases x j (λ b o. omega arith) (λ b o. omega arith))
-    (λ a e. raised-cases x j (λ b o. omega arith) (λ b o. omega arith))
+raised_ordered : (x i j : ℕ) → i < j → old_number x i < old_number x j
+raised_ordered x i j l = raised_cases x i
+    (λ a e. raised_cases x j (λ b o. omega arith) (λ b o. omega arith))
+    (λ a e. raised_cases x j (λ b o. omega arith) (λ b o. omega arith))
 
 module _ (ps : List ℕ) (m x : ℕ) (qs : List ℕ) (goes : Goes ps m x qs) where
-  raised-root : oldNumber x 0 ≡ 0
-  raised-root = rw (lt-ltb 0 x goes.not_root)
+  raised_root : old_number x 0 ≡ 0
+  raised_root = rw (lt-ltb 0 x goes.not_root)
 
-  moves : (j : ℕ) → 0 < j → j < m → (0 < oldNumber x j) × (oldNumber x j < suc m) × (parent ps (oldNumber x j) ≡ oldNumber x (parent qs j))
+  moves : (j : ℕ) → 0 < j → j < m → (0 < old_number x j) × (old_number x j < suc m) × (parent ps (old_number x j) ≡ old_number x (parent qs j))
   moves j p h =
-      let a : (0 < oldNumber x j) × (oldNumber x j < suc m) = raised-cases x j (λ l e. omega arith) (λ l e. omega arith) in
-      (a.0, a.1, sym (ap (oldNumber x) (goes.moved j p h) ∙ raised-lowered x (parent ps (oldNumber x j)) (goes.leaf (oldNumber x j) a.0 a.1)))
+      let a : (0 < old_number x j) × (old_number x j < suc m) = raised_cases x j (λ l e. omega arith) (λ l e. omega arith) in
+      (a.0, a.1, sym (ap (old_number x) (goes.moved j p h) ∙ raised_lowered x (parent ps (old_number x j)) (goes.leaf (old_number x j) a.0 a.1)))
 
-pub go-grown : Go-grown
-go-grown ps m x qs grown goes j p h =
+pub go_grown : GoGrown
+go_grown ps m x qs grown goes j p h =
     let t = moves ps m x qs goes j p h in
-    let l = grown (oldNumber x j) t.0 t.1 in
-    raised-cases x j
-    (λ a e. raised-cases x (parent qs j) (λ b o. omega (arith, t.2)) (λ b o. omega (arith, t.2)))
-    (λ a e. raised-cases x (parent qs j) (λ b o. omega (arith, t.2)) (λ b o. omega (arith, t.2)))
+    let l = grown (old_number x j) t.0 t.1 in
+    raised_cases x j
+    (λ a e. raised_cases x (parent qs j) (λ b o. omega (arith, t.2)) (λ b o. omega (arith, t.2)))
+    (λ a e. raised_cases x (parent qs j) (λ b o. omega (arith, t.2)) (λ b o. omega (arith, t.2)))
 
-pub go-adjacent : Go-adjacent
-go-adjacent ps m x qs grown goes =
-    adjacent-map ps (suc m) grown qs m (go-grown ps m x qs grown goes) (oldNumber x) (raised-root ps m x qs goes) (moves ps m x qs goes) (raised-ordered x)
+pub go_adjacent : GoAdjacent
+go_adjacent ps m x qs grown goes =
+    adjacent_map ps (suc m) grown qs m (go_grown ps m x qs grown goes) (old_number x) (raised_root ps m x qs goes) (moves ps m x qs goes) (raised_ordered x)
 
-pub go-side : Go-side
-go-side ps m x qs grown goes =
-    side-map ps (suc m) grown qs m (go-grown ps m x qs grown goes) (oldNumber x) (raised-root ps m x qs goes) (moves ps m x qs goes) (raised-ordered x)
+pub go_side : GoSide
+go_side ps m x qs grown goes =
+    side_map ps (suc m) grown qs m (go_grown ps m x qs grown goes) (old_number x) (raised_root ps m x qs goes) (moves ps m x qs goes) (raised_ordered x)

@@ -1,19 +1,19 @@
 -- Each public contract leaves one outcome. It is the function's own contract, as its source states it: `Post` of its `Reads`.
 use mathlib.Core.Path.{sym, ◌∙◌}
 use Rattle.fields.specs.Outcomes.{OneResult}
-use Rattle.tree.proofs.Tree.in_rule.Reads as in-rule
+use Rattle.tree.proofs.Tree.in_rule.Reads as in_rule_lem
 use Rattle.tree.proofs.Tree.neighbours.Reads as neighbours
-use Rattle.tree.proofs.Tree.is_below.Reads as isBelow
+use Rattle.tree.proofs.Tree.is_below.Reads as is_below
 use Rattle.tree.proofs.Tree.sizes.Reads as sizes
 
-pub in-rule-once : OneResult in-rule.Post
-in-rule-once κ a x y s t p q = p ∙ sym q
+pub in_rule_once : OneResult in_rule_lem.Post
+in_rule_once κ a x y s t p q = p ∙ sym q
 
-pub neighbours-once : OneResult neighbours.Post
-neighbours-once κ a x y s t p q = p ∙ sym q
+pub neighbours_once : OneResult neighbours.Post
+neighbours_once κ a x y s t p q = p ∙ sym q
 
-pub is-below-once : OneResult isBelow.Post
-is-below-once κ a x y s t p q = p ∙ sym q
+pub is_below_once : OneResult is_below.Post
+is_below_once κ a x y s t p q = p ∙ sym q
 
-pub sizes-once : OneResult sizes.Post
-sizes-once κ a x y s t p q = p ∙ sym q
+pub sizes_once : OneResult sizes.Post
+sizes_once κ a x y s t p q = p ∙ sym q

@@ -11,10 +11,10 @@ use borrow.Author.Tests.{eq-eqb, ne_eqb}
 use Rattle.tree.specs.Parents.{Grown}
 use Rattle.tree.specs.Sides.{adjacent, side}
 use Rattle.tree.specs.Operation.{Op, fold, pick, aggregate}
-use Rattle.tree.specs.Promises.{Side-law, Whole-law}
+use Rattle.tree.specs.Promises.{SideLaw, WholeLaw}
 use Rattle.tree.proofs.Cases.{either}
 use Rattle.tree.proofs.Folds.{same, swap, alike, zeros, only, out, chosen, unchosen, same_nodes, parts, pull}
-use Rattle.tree.proofs.Toward.{adjacent-ne, complementary, one_way, self, own, nested}
+use Rattle.tree.proofs.Toward.{adjacent_ne, complementary, one_way, self, own, nested}
 
 module _ (ps : List ℕ) (n : ℕ) (grown : Grown ps n) {A : Type 0} (op : Op A) (f : ℕ → A) where
   open op use {◌⊕◌, ε, assoc, comm, idem}
@@ -48,15 +48,15 @@ module _ (ps : List ℕ) (n : ℕ) (grown : Grown ps n) {A : Type 0} (op : Op A)
       ap (λ a. aggregate op f (side ps u v) n ⊕ a) (same_nodes op (side ps v u) (λ j. not (side ps u v j)) f n (λ j l. complementary ps v u j (λ o. d (sym o))))
       ∙ parts op (side ps u v) f n
 
-pub side-law : Side-law
-side-law ps n grown A op f u v hu b =
+pub side_law : SideLaw
+side_law ps n grown A op f u v hu b =
     pull op (side ps u v) f n u hu (own ps n grown u v hu b)
     ∙ ap (op.◌⊕◌ (f u)) (sym (fan ps n grown op f u (λ w. not (eqb v w)) (side ps u v) hu (λ w j h s a. either (ℕ_discrete v w)
-    (λ e. rw (eq-eqb v w e, complementary ps u v j (λ o. adjacent-ne ps v u b (sym o)), e, s))
+    (λ e. rw (eq-eqb v w e, complementary ps u v j (λ o. adjacent_ne ps v u b (sym o)), e, s))
     (λ e. rw (ne_eqb v w e) (sym (nested ps n grown u w v j hu h a b (omega arith) s))))))
 
-pub whole-law : Whole-law
-whole-law ps n grown A op f x h =
+pub whole_law : WholeLaw
+whole_law ps n grown A op f x h =
     pull op (λ j. true) f n x h refl
     ∙ ap (op.◌⊕◌ (f x)) (sym (fan ps n grown op f x (λ w. true) (λ j. true) h (λ w j l s a. refl))
     ∙ same_nodes op (λ w. adjacent ps w x && true) (λ w. adjacent ps w x) (λ w. aggregate op f (side ps w x) n) n (λ w l. and-true (adjacent ps w x)))

@@ -13,13 +13,13 @@ use Rattle.tree.specs.Sides.{adjacent, side, other}
 use Rattle.tree.specs.Sizes.{size}
 use Rattle.tree.specs.Kept.{when, kept}
 use Rattle.tree.specs.inner.Tours.{onward, visit, tour, Closed, OfItsPair}
-use Rattle.tree.specs.Promises.{Visited-once, Count-is-enough}
+use Rattle.tree.specs.Promises.{VisitedOnce, CountIsEnough}
 use Rattle.tree.proofs.Cases.{either, never}
-use Rattle.tree.proofs.Toward.{adjacent-ne, adjacent-sym, complementary, next, unique, self, not_own, own, nested}
-use Rattle.tree.proofs.Sizes.{sizes-add, size-least, size_less}
+use Rattle.tree.proofs.Toward.{adjacent_ne, adjacent_sym, complementary, next, unique, self, not_own, own, nested}
+use Rattle.tree.proofs.Sizes.{sizes_add, size_least, size_less}
 use Rattle.tree.proofs.Paths.{edge, through}
-use Rattle.tree.proofs.Lists.{kept_append, kept-when}
-use Rattle.tree.proofs.Turns.{round_same, round-none, round-one, kept-round}
+use Rattle.tree.proofs.Lists.{kept_append, kept_when}
+use Rattle.tree.proofs.Turns.{round_same, round_none, round_one, kept_round}
 
 -- what it takes to go on from u to w
 pub goes : (ps : List ℕ) (go : ℕ → ℕ → Bool) (u v w : ℕ) → (other ps u v w && go w u) ≡ true → (adjacent ps w u ≡ true) × (v ≢ w) × (go w u ≡ true)
@@ -30,19 +30,19 @@ goes ps go u v w t =
 
 -- a round of the neighbours gone to depends on what is said of those alone, and what is kept of it is the round of what is kept
 module _ (ps : List ℕ) (n : ℕ) (go : ℕ → ℕ → Bool) (u v : ℕ) (hu : u < n) {M : Type 0} where
-  pub onward-same : (F G : ℕ → List M) → ((w : ℕ) → w < n → (other ps u v w && go w u) ≡ true → F w ≡ G w) → onward ps n go u v F ≡ onward ps n go u v G
-  onward-same F G h =
+  pub onward_same : (F G : ℕ → List M) → ((w : ℕ) → w < n → (other ps u v w && go w u) ≡ true → F w ≡ G w) → onward ps n go u v F ≡ onward ps n go u v G
+  onward_same F G h =
       round_same n u hu (λ w. when (other ps u v w && go w u) (F w)) (λ w. when (other ps u v w && go w u) (G w)) (λ w l. one (other ps u v w && go w u) (h w l))
     where
       one : (t : Bool) {s r : List M} → (t ≡ true → s ≡ r) → when t s ≡ when t r
       one true e = e refl
       one false e = refl
 
-  pub onward-kept : (test : M → Bool) (F : ℕ → List M) → kept test (onward ps n go u v F) ≡ onward ps n go u v (λ w. kept test (F w))
-  onward-kept test F =
-      kept-round n u hu test (λ w. when (other ps u v w && go w u) (F w))
+  pub onward_kept : (test : M → Bool) (F : ℕ → List M) → kept test (onward ps n go u v F) ≡ onward ps n go u v (λ w. kept test (F w))
+  onward_kept test F =
+      kept_round n u hu test (λ w. when (other ps u v w && go w u) (F w))
       ∙ round_same n u hu (λ w. kept test (when (other ps u v w && go w u) (F w))) (λ w. when (other ps u v w && go w u) (kept test (F w)))
-      (λ w l. kept-when test (other ps u v w && go w u) (F w))
+      (λ w l. kept_when test (other ps u v w && go w u) (F w))
 
 -- the pairs (a,b) that a walk goes to from the step to u from v on: a is on u's side, b is its neighbour towards v, and the test lets it
 abbrev region : List ℕ → (ℕ → ℕ → Bool) → ℕ → ℕ → ℕ → ℕ → Bool
@@ -61,14 +61,14 @@ module _ (ps : List ℕ) (n : ℕ) (grown : Grown ps n) (go : ℕ → ℕ → Bo
         by true e = h w l e ∙ rw (k e)
         by false e = refl
 
-    none-gone : ((w : ℕ) → (other ps u v w && go w u) ≡ true → side ps w u a ≡ false) → onward ps n go u v F ≡ []
-    none-gone k = round-none n u hu (λ w. when (other ps u v w && go w u) (F w)) (λ w l. quiet w l (k w))
+    none_gone : ((w : ℕ) → (other ps u v w && go w u) ≡ true → side ps w u a ≡ false) → onward ps n go u v F ≡ []
+    none_gone k = round_none n u hu (λ w. when (other ps u v w && go w u) (F w)) (λ w l. quiet w l (k w))
 
     -- the one that has it
     gone : (k : ℕ) → k < n → adjacent ps k u ≡ true → side ps k u a ≡ true
         → onward ps n go u v F ≡ when (not (eqb v k) && ((side ps b a u && adjacent ps b a) && go a b)) Z
     gone k hk ak sk =
-        round-one n u hu (λ w. when (other ps u v w && go w u) (F w)) k hk (λ w l o. quiet w l (λ t. away w (goes ps go u v w t).0 o))
+        round_one n u hu (λ w. when (other ps u v w && go w u) (F w)) k hk (λ w l o. quiet w l (λ t. away w (goes ps go u v w t).0 o))
         ∙ last (not (eqb v k)) refl (go k u) refl
       where
         away : (w : ℕ) → adjacent ps w u ≡ true → w ≢ k → side ps w u a ≡ false
@@ -94,9 +94,9 @@ module _ (ps : List ℕ) (n : ℕ) (grown : Grown ps n) (go : ℕ → ℕ → Bo
       → when (eqb a u && eqb b v) X ++ (onward ps n go u v F ++ when (eqb a u && eqb b v) Y) ≡ when (region ps go u v a b) (X ++ Y)
   gather X Y u v hu hv c g F h = either (ℕ_discrete a u)
       (λ e. either (ℕ_discrete b v)
-      (λ p. rw (zero-at e, eq-eqb a u e, eq-eqb b v p, e, p, own ps n grown u v hu c, vv, c, g))
+      (λ p. rw (zero_at_lem e, eq-eqb a u e, eq-eqb b v p, e, p, own ps n grown u v hu c, vv, c, g))
       (λ p. rw (
-        zero-at e,
+        zero_at_lem e,
         eq-eqb a u e,
         ne_eqb b v p,
         e,
@@ -107,18 +107,18 @@ module _ (ps : List ℕ) (n : ℕ) (grown : Grown ps n) (go : ℕ → ℕ → Bo
       )))
       (λ d. let q = next ps n grown u a hu ha d in
       rw (ne_eqb a u d, append-nil, gone (X ++ Y) u v hu F h q.0 q.1 q.2 q.3) (either (ℕ_discrete v q.0)
-      (λ e. rw (eq-eqb v q.0 e, complementary ps u v a (λ o. adjacent-ne ps v u c (sym o)), e, q.3))
+      (λ e. rw (eq-eqb v q.0 e, complementary ps u v a (λ o. adjacent_ne ps v u c (sym o)), e, q.3))
       (λ ne. let here = nested ps n grown u q.0 v a hu ha q.2 c (λ o. ne (sym o)) q.3 in
       rw (ne_eqb v q.0 ne, here, across d (λ o. true≢false (sym here ∙ rw o (not_own ps n grown v u hv c'))) (adjacent ps b a) refl))))
     where
       c' : adjacent ps u v ≡ true
-      c' = adjacent-sym ps u v ∙ c
+      c' = adjacent_sym ps u v ∙ c
 
       vv : side ps v u v ≡ true
       vv = own ps n grown v u hv c'
 
-      zero-at : a ≡ u → onward ps n go u v F ≡ []
-      zero-at e = none-gone (X ++ Y) u v hu F h (λ w t. rw e (not_own ps n grown u w hu (goes ps go u v w t).0))
+      zero_at_lem : a ≡ u → onward ps n go u v F ≡ []
+      zero_at_lem e = none_gone (X ++ Y) u v hu F h (λ w t. rw e (not_own ps n grown u w hu (goes ps go u v w t).0))
 
       across : a ≢ u → a ≢ v → (z : Bool) → adjacent ps b a ≡ z → (side ps b a v && z) ≡ (side ps b a u && z)
       across d o true p = ap (λ s. s && true) (edge ps n grown b a v u hv hu p c o d)
@@ -137,22 +137,22 @@ module _ (ps : List ℕ) (n : ℕ) (grown : Grown ps n) (go : ℕ → ℕ → Bo
     once : (k u v : ℕ) → size ps n u v ≤ k → u < n → v < n → adjacent ps v u ≡ true → go u v ≡ true
         → told (visit ps n go before after k u v) ≡ when (region ps go u v a b) (before a b ++ after a b)
     unfolding visit
-    once zero u v l hu hv c g = absurd (omega (arith, size-least ps n grown u v hu c))
+    once zero u v l hu hv c g = absurd (omega (arith, size_least ps n grown u v hu c))
     once (suc k) u v l hu hv c g =
         kept_append (about a b) (before u v) (gap ++ after u v)
-        ∙ ap₂ ◌++◌ (of_pair before of-before u v hu hv c) (kept_append (about a b) gap (after u v) ∙ ap₂ ◌++◌ (onward-kept ps n go u v hu (about a b) (λ w. visit ps n go before after k w u)) (of_pair after of-after u v hu hv c))
+        ∙ ap₂ ◌++◌ (of_pair before of-before u v hu hv c) (kept_append (about a b) gap (after u v) ∙ ap₂ ◌++◌ (onward_kept ps n go u v hu (about a b) (λ w. visit ps n go before after k w u)) (of_pair after of-after u v hu hv c))
         ∙ gather (before a b) (after a b) u v hu hv c g (λ w. told (visit ps n go before after k w u)) (λ w hw t.
         let e = goes ps go u v w t in
-        once k w u (omega (arith, size_less ps n grown u v hu c w hw e.0 e.1)) hw hu (adjacent-sym ps u w ∙ e.0) e.2)
+        once k w u (omega (arith, size_less ps n grown u v hu c w hw e.0 e.1)) hw hu (adjacent_sym ps u w ∙ e.0) e.2)
       where
         gap : List M
         gap = onward ps n go u v (λ w. visit ps n go before after k w u)
 
     from_start : (k x : ℕ) → n ≤ k → x < n → told (tour ps n go before after k x) ≡ when ((side ps b a x && adjacent ps b a) && go a b) (before a b ++ after a b)
-    from_start k x enough hx = onward-kept ps n go x x hx (about a b) (λ w. visit ps n go before after k w x) ∙ either (ℕ_discrete a x)
-        (λ e. none-gone (before a b ++ after a b) x x hx F at (λ w t. rw e (not_own ps n grown x w hx (goes ps go x x w t).0)) ∙ rw (e, self ps n grown x b hx))
+    from_start k x enough hx = onward_kept ps n go x x hx (about a b) (λ w. visit ps n go before after k w x) ∙ either (ℕ_discrete a x)
+        (λ e. none_gone (before a b ++ after a b) x x hx F at (λ w t. rw e (not_own ps n grown x w hx (goes ps go x x w t).0)) ∙ rw (e, self ps n grown x b hx))
         (λ d. let q = next ps n grown x a hx ha d in
-        gone (before a b ++ after a b) x x hx F at q.0 q.1 q.2 q.3 ∙ rw (ne_eqb x q.0 (λ o. adjacent-ne ps q.0 x q.2 (sym o))))
+        gone (before a b ++ after a b) x x hx F at q.0 q.1 q.2 q.3 ∙ rw (ne_eqb x q.0 (λ o. adjacent_ne ps q.0 x q.2 (sym o))))
       where
         F : ℕ → List M
         F w = told (visit ps n go before after k w x)
@@ -160,25 +160,25 @@ module _ (ps : List ℕ) (n : ℕ) (grown : Grown ps n) (go : ℕ → ℕ → Bo
         at : (w : ℕ) → w < n → (other ps x x w && go w x) ≡ true → F w ≡ when (region ps go w x a b) (before a b ++ after a b)
         at w hw t =
             let e = goes ps go x x w t in
-            let c = adjacent-sym ps x w ∙ e.0 in
-            once k w x (omega (arith, sizes-add ps n grown w x hw hx c)) hw hx c e.2
+            let c = adjacent_sym ps x w ∙ e.0 in
+            once k w x (omega (arith, sizes_add ps n grown w x hw hx c)) hw hx c e.2
 
-pub visited-once : Visited-once
-visited-once ps n grown go closed M about before after of-before of-after a b ha hb = from_start ps n grown go closed a b ha hb about before after of-before of-after
+pub visited_once : VisitedOnce
+visited_once ps n grown go closed M about before after of-before of-after a b ha hb = from_start ps n grown go closed a b ha hb about before after of-before of-after
 
 module _ (ps : List ℕ) (n : ℕ) (grown : Grown ps n) {M : Type 0} (go : ℕ → ℕ → Bool) (before after : ℕ → ℕ → List M) where
   -- two falling numbers that are both enough
-  same-visit : (k m u v : ℕ) → size ps n u v ≤ k → size ps n u v ≤ m → u < n → adjacent ps v u ≡ true → visit ps n go before after k u v ≡ visit ps n go before after m u v
+  same_visit : (k m u v : ℕ) → size ps n u v ≤ k → size ps n u v ≤ m → u < n → adjacent ps v u ≡ true → visit ps n go before after k u v ≡ visit ps n go before after m u v
   unfolding visit
-  same-visit zero m u v l i hu c = absurd (omega (arith, size-least ps n grown u v hu c))
-  same-visit (suc k) zero u v l i hu c = absurd (omega (arith, size-least ps n grown u v hu c))
-  same-visit (suc k) (suc m) u v l i hu c = ap (λ s. before u v ++ (s ++ after u v)) (onward-same ps n go u v hu (λ w. visit ps n go before after k w u) (λ w. visit ps n go before after m w u) (λ w hw t.
+  same_visit zero m u v l i hu c = absurd (omega (arith, size_least ps n grown u v hu c))
+  same_visit (suc k) zero u v l i hu c = absurd (omega (arith, size_least ps n grown u v hu c))
+  same_visit (suc k) (suc m) u v l i hu c = ap (λ s. before u v ++ (s ++ after u v)) (onward_same ps n go u v hu (λ w. visit ps n go before after k w u) (λ w. visit ps n go before after m w u) (λ w hw t.
       let e = goes ps go u v w t in
       let s = size_less ps n grown u v hu c w hw e.0 e.1 in
-      same-visit k m w u (omega arith) (omega arith) hw (adjacent-sym ps u w ∙ e.0)))
+      same_visit k m w u (omega arith) (omega arith) hw (adjacent_sym ps u w ∙ e.0)))
 
-pub count-is-enough : Count-is-enough
-count-is-enough ps n grown M go before after k x l hx = onward-same ps n go x x hx (λ w. visit ps n go before after k w x) (λ w. visit ps n go before after n w x) (λ w hw t.
-    let c = adjacent-sym ps x w ∙ (goes ps go x x w t).0 in
-    let s = sizes-add ps n grown w x hw hx c in
-    same-visit ps n grown go before after k n w x (omega arith) (omega arith) hw c)
+pub count_is_enough : CountIsEnough
+count_is_enough ps n grown M go before after k x l hx = onward_same ps n go x x hx (λ w. visit ps n go before after k w x) (λ w. visit ps n go before after n w x) (λ w hw t.
+    let c = adjacent_sym ps x w ∙ (goes ps go x x w t).0 in
+    let s = sizes_add ps n grown w x hw hx c in
+    same_visit ps n grown go before after k n w x (omega arith) (omega arith) hw c)

@@ -6,10 +6,10 @@ abbrev pub when : {M : Type 0} → Bool → List M → List M
 when b l = cond b l []
 
 -- those elements of a list that pass the test, in order
-abbrev pub keepIf : {M : Type 0} → Bool → M → List M → List M
-keepIf true m l = m ∷ l
-keepIf false m l = l
+abbrev pub keep_if : {M : Type 0} → Bool → M → List M → List M
+keep_if true m l = m ∷ l
+keep_if false m l = l
 
 unfoldable pub kept : {M : Type 0} → (M → Bool) → List M → List M
 kept test [] = []
-kept test (m ∷ l) = keepIf (test m) m (kept test l)
+kept test (m ∷ l) = keep_if (test m) m (kept test l)

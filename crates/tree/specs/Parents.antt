@@ -22,11 +22,11 @@ pub record InRule (ps : List ℕ) (n : ℕ) : Type 0 where
   pub unused : (i : ℕ) → i < 256 → (i ≡ 0) ⊎ (n ≤ i) → parent ps i ≡ 0
 
 -- the rule as a test: of p as the entry at i, of the tree's entry at i, and of the tree
-unfoldable pub entryInRule : ℕ → ℕ → ℕ → Bool
-entryInRule n i p = cond (ltb 0 i && ltb i n) (ltb p i) (eqb p 0)
+unfoldable pub entry_in_rule : ℕ → ℕ → ℕ → Bool
+entry_in_rule n i p = cond (ltb 0 i && ltb i n) (ltb p i) (eqb p 0)
 
-abbrev pub placeInRule : List ℕ → ℕ → ℕ → Bool
-placeInRule ps n i = entryInRule n i (parent ps i)
+abbrev pub place_in_rule : List ℕ → ℕ → ℕ → Bool
+place_in_rule ps n i = entry_in_rule n i (parent ps i)
 
-unfoldable pub inRule : List ℕ → ℕ → Bool
-inRule ps n = leb 1 n && (leb n 256 && every (placeInRule ps n) 256)
+unfoldable pub in_rule : List ℕ → ℕ → Bool
+in_rule ps n = leb 1 n && (leb n 256 && every (place_in_rule ps n) 256)

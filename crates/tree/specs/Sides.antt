@@ -17,8 +17,8 @@ unfoldable pub nodes : ℕ → ℕ → ℕ → Bool
 nodes n u w = ltb u n && ltb w n
 
 -- i and j are nodes in a tree of n, and j is i or below it
-unfoldable pub isBelow : List ℕ → ℕ → ℕ → ℕ → Bool
-isBelow ps n i j = nodes n i j && below ps i j
+unfoldable pub is_below : List ℕ → ℕ → ℕ → ℕ → Bool
+is_below ps n i j = nodes n i j && below ps i j
 
 -- u and w have an edge between them: the larger is the child
 abbrev pub adjacent : List ℕ → ℕ → ℕ → Bool
@@ -33,8 +33,8 @@ abbrev pub side : List ℕ → ℕ → ℕ → ℕ → Bool
 side ps u v j = cond (ltb v u) (below ps u j) (not (below ps v j))
 
 -- (u,v) points to x when v is on the path from u to x: x is on v's side
-abbrev pub pointsTo : List ℕ → ℕ → ℕ → ℕ → Bool
-pointsTo ps u v x = side ps v u x
+abbrev pub points_to : List ℕ → ℕ → ℕ → ℕ → Bool
+points_to ps u v x = side ps v u x
 
 -- w is a neighbour of u, and not v
 abbrev pub other : List ℕ → ℕ → ℕ → ℕ → Bool

@@ -1,6 +1,6 @@
 -- How many nodes are on a side, and below each node.
 use Rattle.std.specs.Prelude.{cond, List, [], ◌∷◌, ◌++◌, ℕ, zero, suc, ltb, replicate}
-use Rattle.tree.specs.Parents.{inRule}
+use Rattle.tree.specs.Parents.{in_rule}
 use Rattle.tree.specs.Sides.{below, side}
 use Rattle.tree.specs.Operation.{aggregate, plus}
 
@@ -9,8 +9,8 @@ abbrev pub size : List ℕ → ℕ → ℕ → ℕ → ℕ
 size ps n u v = aggregate plus (λ j. 1) (side ps u v) n
 
 -- how many nodes are at or below node i
-abbrev pub sizeBelow : List ℕ → ℕ → ℕ → ℕ
-sizeBelow ps n i = aggregate plus (λ j. 1) (below ps i) n
+abbrev pub size_below : List ℕ → ℕ → ℕ → ℕ
+size_below ps n i = aggregate plus (λ j. 1) (below ps i) n
 
 -- 1 for each of n nodes, 0 where there is no node
 abbrev pub ones : ℕ → ℕ → ℕ
@@ -23,4 +23,4 @@ listed f (suc n) = listed f n ++ (f n ∷ [])
 
 -- the sizes below all nodes of a tree in rule, and zeros for a tree out of rule
 unfoldable pub sizes : List ℕ → ℕ → List ℕ
-sizes ps n = cond (inRule ps n) (listed (sizeBelow ps n) 256) (replicate 256 0)
+sizes ps n = cond (in_rule ps n) (listed (size_below ps n) 256) (replicate 256 0)

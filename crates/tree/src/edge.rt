@@ -17,7 +17,7 @@ pub fn neighbours(count: usize, parents: &[u8; 256], u: usize, w: usize) -> bool
 // Whether i and j are nodes, and j is i or below it.
 pub fn is_below(count: usize, parents: &[u8; 256], i: usize, j: usize) -> bool
     requires { length parents.now ≡ 256 }
-    ensures { result ≡ sides.isBelow parents.now count i j }
+    ensures { result ≡ sides.is_below parents.now count i j }
 {
     if nodes(count, i, j) {
         return climbs(parents, i, j);

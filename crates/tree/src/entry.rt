@@ -2,13 +2,13 @@
 ghost use Rattle.std.specs.Prelude.{◌≡◌, ◌≤◌, ltb, eqb};
 ghost use Rattle.tree.specs.inner.Places.{from};
 ghost use Rattle.tree.specs.Every.{every};
-ghost use Rattle.tree.specs.Parents.{parent, placeInRule, inRule};
+ghost use Rattle.tree.specs.Parents.{parent, place_in_rule, in_rule};
 
 use crate::edge;
 
 // Whether the count is 1 to 256 and all entries are in rule.
 pub fn in_rule(count: usize, parents: &[u8; 256]) -> bool
-    ensures { result ≡ inRule parents.now count }
+    ensures { result ≡ in_rule parents.now count }
 {
     if count < 1 {
         return false;
@@ -23,7 +23,7 @@ pub fn in_rule(count: usize, parents: &[u8; 256]) -> bool
 // smaller than its child. A pass goes over all its places, whatever it finds.
 pub fn entries_in_rule(count: usize, parents: &[u8; 256]) -> bool
     requires { (1 ≤ count) × (count ≤ 256) }
-    ensures { result ≡ every (placeInRule parents.now count) 256 }
+    ensures { result ≡ every (place_in_rule parents.now count) 256 }
 {
     zero(0, 1, parents) & grown(count, parents) & zero(count, 256, parents)
 }

@@ -8,8 +8,8 @@ mod entry; // which entries are in rule
 mod pass; // the sizes of all sides
 
 ghost use Rattle.std.specs.Prelude.{◌≡◌};
-ghost use Rattle.tree.specs.Parents.{inRule};
-ghost use Rattle.tree.specs.Sides.{isBelow, neighbours};
+ghost use Rattle.tree.specs.Parents.{in_rule};
+ghost use Rattle.tree.specs.Sides.{is_below, neighbours};
 ghost use Rattle.tree.specs.Sizes.{sizes};
 
 // The nodes are 0 to count - 1. Entry 0 of parents, and those from count on, are not used and zero.
@@ -24,7 +24,7 @@ impl Tree {
     // Whether the tree is in rule: 1 to 256 nodes, each parent smaller than its child, and entries
     // not used zero.
     pub fn in_rule(self) -> bool
-        ensures { result ≡ inRule self.parents self.count }
+        ensures { result ≡ in_rule self.parents self.count }
     {
         entry::in_rule(self.count as usize, &self.parents)
     }
@@ -38,7 +38,7 @@ impl Tree {
 
     // Whether node j is node i or below it.
     pub fn is_below(self, i: usize, j: usize) -> bool
-        ensures { result ≡ isBelow self.parents self.count i j }
+        ensures { result ≡ is_below self.parents self.count i j }
     {
         edge::is_below(self.count as usize, &self.parents, i, j)
     }

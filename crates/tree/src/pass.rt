@@ -2,7 +2,7 @@
 ghost use Rattle.std.specs.Prelude.{◌≡◌, ◌≤◌};
 ghost use Rattle.tree.specs.Parents.{Grown};
 ghost use Rattle.tree.specs.Sizes as spec;
-ghost use Rattle.tree.specs.Sizes.{sizeBelow, listed, ones};
+ghost use Rattle.tree.specs.Sizes.{size_below, listed, ones};
 
 use crate::{edge, entry};
 
@@ -20,7 +20,7 @@ pub fn sizes(count: usize, parents: &[u8; 256]) -> [u16; 256]
 // children are larger, and is then added to its parent.
 pub fn summed(count: usize, parents: &[u8; 256]) -> [u16; 256]
     requires { (1 ≤ count) × ((count ≤ 256) × Grown parents.now count) }
-    ensures { result ≡ listed (sizeBelow parents.now count) 256 }
+    ensures { result ≡ listed (size_below parents.now count) 256 }
 {
     let mut size = alone(count);
     let mut next = count;

@@ -6,14 +6,14 @@ use Rattle.twos.proofs.encode32.Reads as encode32
 use Rattle.twos.proofs.decode.Reads as decode
 use Rattle.twos.proofs.decode32.Reads as decode32
 
-pub encode-once : OneResult encode.Post
-encode-once κ a x y s t p q = p ∙ sym q
+pub encode_once : OneResult encode.Post
+encode_once κ a x y s t p q = p ∙ sym q
 
-pub encode32-once : OneResult encode32.Post
-encode32-once κ a x y s t p q = p ∙ sym q
+pub encode32_once : OneResult encode32.Post
+encode32_once κ a x y s t p q = p ∙ sym q
 
-pub decode-once : OneResult decode.Post
-decode-once κ a x y s t p q = p ∙ sym q
+pub decode_once : OneResult decode.Post
+decode_once κ a x y s t p q = p ∙ sym q
 
-pub decode32-once : OneResult decode32.Post
-decode32-once κ a x y s t p q = p ∙ sym q
+pub decode32_once : OneResult decode32.Post
+decode32_once κ a x y s t p q = p ∙ sym q

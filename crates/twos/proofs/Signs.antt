@@ -28,9 +28,9 @@ pub twos_up : (w : ℕ) (z : ℤ) → le_z (pos 0) z ≡ true → twos w z ≡ m
 twos_up w (pos n) t = refl
 twos_up w (negsuc n) t = absurd (false≢true t)
 
-pub twos-down : (w : ℕ) (z : ℤ) → 0 < w → mag z < 2 ^ (w - 1) → le_z (pos 0) z ≡ false → twos w z ≡ 2 ^ (w - 1) - 1 - mag z + 2 ^ (w - 1)
-twos-down w (pos n) p h t = absurd (true≢false (sym (leb-zero n) ∙ t))
-twos-down w (negsuc n) p h t = omega (arith, halves w p)
+pub twos_down : (w : ℕ) (z : ℤ) → 0 < w → mag z < 2 ^ (w - 1) → le_z (pos 0) z ≡ false → twos w z ≡ 2 ^ (w - 1) - 1 - mag z + 2 ^ (w - 1)
+twos_down w (pos n) p h t = absurd (true≢false (sym (leb-zero n) ∙ t))
+twos_down w (negsuc n) p h t = omega (arith, halves w p)
 
 pub signed_low : (w n : ℕ) → n < 2 ^ (w - 1) → signed w n ≡ pos n
 unfolding signed
@@ -45,23 +45,23 @@ signed_high w n p h =
 -- ---- there and back
 
 module _ (w : ℕ) (p : 0 < w) where
-  pub twos-lt : (z : ℤ) → mag z < 2 ^ (w - 1) → twos w z < 2 ^ w
-  twos-lt (pos n) h = omega (arith, halves w p)
-  twos-lt (negsuc n) h = omega (arith, halves w p)
+  pub twos_lt : (z : ℤ) → mag z < 2 ^ (w - 1) → twos w z < 2 ^ w
+  twos_lt (pos n) h = omega (arith, halves w p)
+  twos_lt (negsuc n) h = omega (arith, halves w p)
 
-  pub signed-twos : (z : ℤ) → mag z < 2 ^ (w - 1) → signed w (twos w z) ≡ z
-  signed-twos (pos n) h = signed_low w n h
-  signed-twos (negsuc n) h = signed_high w (2 ^ w - suc n) p (omega (arith, halves w p)) ∙ ap negsuc (omega (arith, halves w p))
+  pub signed_twos : (z : ℤ) → mag z < 2 ^ (w - 1) → signed w (twos w z) ≡ z
+  signed_twos (pos n) h = signed_low w n h
+  signed_twos (negsuc n) h = signed_high w (2 ^ w - suc n) p (omega (arith, halves w p)) ∙ ap negsuc (omega (arith, halves w p))
 
-  pub twos-signed : (n : ℕ) → n < 2 ^ w → twos w (signed w n) ≡ n
-  twos-signed n h = go (dec_lt n (2 ^ (w - 1)))
+  pub twos_signed : (n : ℕ) → n < 2 ^ w → twos w (signed w n) ≡ n
+  twos_signed n h = go (dec_lt n (2 ^ (w - 1)))
     where
       go : Dec (n < 2 ^ (w - 1)) → twos w (signed w n) ≡ n
       go (yes l) = rw (signed_low w n l)
       go (no l) = rw (signed_high w n p (omega arith)) (omega (arith, halves w p))
 
-  pub signed-mag : (n : ℕ) → n < 2 ^ w → mag (signed w n) < 2 ^ (w - 1)
-  signed-mag n h = go (dec_lt n (2 ^ (w - 1)))
+  pub signed_mag : (n : ℕ) → n < 2 ^ w → mag (signed w n) < 2 ^ (w - 1)
+  signed_mag n h = go (dec_lt n (2 ^ (w - 1)))
     where
       go : Dec (n < 2 ^ (w - 1)) → mag (signed w n) < 2 ^ (w - 1)
       go (yes l) = rw (signed_low w n l) l
@@ -77,6 +77,6 @@ pub flip_down : (z : ℤ) → le_z (pos 0) z ≡ false → negsuc 0 -ℤ z ≡ p
 flip_down (pos n) t = absurd (true≢false (sym (leb-zero n) ∙ t))
 flip_down (negsuc n) t = rw (le-ltb (suc n) 1 (omega arith)) (ap pos (omega arith))
 
-pub up-mag : (z : ℤ) → le_z (pos 0) z ≡ true → z ≡ pos (mag z)
-up-mag (pos n) t = refl
-up-mag (negsuc n) t = absurd (false≢true t)
+pub up_mag : (z : ℤ) → le_z (pos 0) z ≡ true → z ≡ pos (mag z)
+up_mag (pos n) t = refl
+up_mag (negsuc n) t = absurd (false≢true t)

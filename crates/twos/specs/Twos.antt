@@ -47,14 +47,14 @@ unfoldable pub decoded32 : ℕ → ℕ → Decoded32
 decoded32 w n = narrowed (decoded w n)
 
 -- document 01's number for what was answered, and the value: 11 is a value that does not fit. Document 01 says so of the log's 40 bits; at other widths it is the same fault.
-abbrev pub toldEncoded : Encoded → ℕ × ℕ
-toldEncoded (encoding.Number n) = (0, n)
-toldEncoded encoding.Misfit = (11, 0)
+abbrev pub told_encoded : Encoded → ℕ × ℕ
+told_encoded (encoding.Number n) = (0, n)
+told_encoded encoding.Misfit = (11, 0)
 
-abbrev pub toldDecoded : Decoded → ℕ × ℤ
-toldDecoded (decoding.Value z) = (0, z)
-toldDecoded decoding.Misfit = (11, pos 0)
+abbrev pub told_decoded : Decoded → ℕ × ℤ
+told_decoded (decoding.Value z) = (0, z)
+told_decoded decoding.Misfit = (11, pos 0)
 
-abbrev pub toldDecoded32 : Decoded32 → ℕ × ℤ
-toldDecoded32 (decoding32.Value z) = (0, z)
-toldDecoded32 decoding32.Misfit = (11, pos 0)
+abbrev pub told_decoded32 : Decoded32 → ℕ × ℤ
+told_decoded32 (decoding32.Value z) = (0, z)
+told_decoded32 decoding32.Misfit = (11, pos 0)

@@ -2,11 +2,11 @@
 ghost use Rattle.std.specs.Prelude.{◌≡◌, ◌<◌, ◌≤◌, ◌-◌, ◌^◌, negsuc};
 ghost use Rattle.std.specs.Int.Signed.{mag};
 ghost use Rattle.twos.specs.Twos.{twos, signed};
-ghost use Rattle.twos.specs.Twos.{wide as Twos·wide, encodes as Twos·encodes, decodes as Twos·decodes};
+ghost use Rattle.twos.specs.Twos;
 
 // Whether a field of width bits has a number for value.
 pub fn encodes(width: usize, value: i64) -> bool
-    ensures { result ≡ Twos·encodes width value }
+    ensures { result ≡ Twos.encodes width value }
 {
     if wide(width) {
         return magnitude(value) < half_of(width);
@@ -16,7 +16,7 @@ pub fn encodes(width: usize, value: i64) -> bool
 
 // Whether number stands for a value in a field of width bits.
 pub fn decodes(width: usize, number: u64) -> bool
-    ensures { result ≡ Twos·decodes width number }
+    ensures { result ≡ Twos.decodes width number }
 {
     if wide(width) {
         return number / 2 < half_of(width);
@@ -76,7 +76,7 @@ fn below_zero(n: u64) -> i64
 }
 
 fn wide(width: usize) -> bool
-    ensures { result ≡ Twos·wide width }
+    ensures { result ≡ Twos.wide width }
 {
     if width < 1 {
         return false;

@@ -10,30 +10,30 @@ use Rattle.tree.specs.Ranges.{Range}
 use Rattle.tree.specs.Sides.{adjacent, side, other}
 use Rattle.tree.specs.Sizes.{size}
 use Rattle.tree.proofs.Cases.{either}
-use Rattle.tree.proofs.Toward.{adjacent-ne, adjacent-sym, complementary, not_own, nested}
+use Rattle.tree.proofs.Toward.{adjacent_ne, adjacent_sym, complementary, not_own, nested}
 use Rattle.mechanism.specs.Views.{View}
 use Rattle.mechanism.proofs.Others.{others}
 use Rattle.walk.specs.inner.Telling.{Come}
 
 module _ (q : View) (x : ℕ) (grown : Grown q.parents q.count) (hx : x < q.count) where
   -- nobody told x
-  pub come-first : Come q x x x (pos 0)
-  come-first =
+  pub come_first : Come q x x x (pos 0)
+  come_first =
       record {
-        toward = λ c hc a. not_own q.parents q.count grown x c hx a ∙ sym (ne_eqb c x (adjacent-ne q.parents c x a));
-        something = λ a. absurd (adjacent-ne q.parents x x a refl);
+        toward = λ c hc a. not_own q.parents q.count grown x c hx a ∙ sym (ne_eqb c x (adjacent_ne q.parents c x a));
+        something = λ a. absurd (adjacent_ne q.parents x x a refl);
         nothing = λ a. refl;
       }
 
   -- w, told y by u, that was told z by v
-  pub come-on : (u v w : ℕ) (z y : ℤ) → u < q.count → w < q.count → Come q x u v z → other q.parents u v w ≡ true → Range (size q.parents q.count u w) y → Come q x w u y
-  come-on u v w z y hu hw come o r =
+  pub come_on : (u v w : ℕ) (z y : ℤ) → u < q.count → w < q.count → Come q x u v z → other q.parents u v w ≡ true → Range (size q.parents q.count u w) y → Come q x w u y
+  come_on u v w z y hu hw come o r =
       record {
         toward =
             λ c hc a.
             either (ℕ_discrete c u)
             (λ e. rw (eq-eqb c u e, e) behind)
-            (λ d. rw (ne_eqb c u d) (complementary q.parents c w x (adjacent-ne q.parents c w a) ∙ ap not (nested q.parents q.count grown w u c x hw hx back a (λ e. d (sym e)) behind)));
+            (λ d. rw (ne_eqb c u d) (complementary q.parents c w x (adjacent_ne q.parents c w a) ∙ ap not (nested q.parents q.count grown w u c x hw hx back a (λ e. d (sym e)) behind)));
         something = λ a. r;
         nothing = λ a. absurd (true≢false (sym back ∙ a));
       }
@@ -42,7 +42,7 @@ module _ (q : View) (x : ℕ) (grown : Grown q.parents q.count) (hx : x < q.coun
       near = (others q.parents u v w o).0
 
       back : adjacent q.parents u w ≡ true
-      back = adjacent-sym q.parents u w ∙ near
+      back = adjacent_sym q.parents u w ∙ near
 
       behind : side q.parents u w x ≡ true
-      behind = complementary q.parents u w x (adjacent-ne q.parents u w back) ∙ ap not (come.toward w hw near ∙ ne_eqb w v (λ e. (others q.parents u v w o).1 (sym e)))
+      behind = complementary q.parents u w x (adjacent_ne q.parents u w back) ∙ ap not (come.toward w hw near ∙ ne_eqb w v (λ e. (others q.parents u v w o).1 (sym e)))

@@ -4,7 +4,7 @@ use mathlib.Core.Bool.{Bool, true, false, true≢false}
 use Prim.Native.Nat.{ℕ, zero, suc, ◌+◌, ◌-◌, ◌<◌, ◌≤◌}
 use native.Mathlib.Nat.{le_refl, add-zero}
 use native.Mathlib.Omega.{arith}
-use Rattle.tree.proofs.Cases.{lt-or-le}
+use Rattle.tree.proofs.Cases.{lt_or_le}
 use Rattle.walk.specs.inner.Links.{Found}
 
 pub found_none : {n : ℕ} {test : ℕ → Bool} → Found n test n n
@@ -19,23 +19,23 @@ found_from {m = m} {r} l fails same f =
     record {
       from = omega (arith, f.from);
       upto = f.upto;
-      skipped = λ j a b. lt-or-le j m (λ h. fails j a h) (λ h. same j h ∙ f.skipped j h b);
+      skipped = λ j a b. lt_or_le j m (λ h. fails j a h) (λ h. same j h ∙ f.skipped j h b);
       found = λ h. same r f.from ∙ f.found h;
     }
 
 -- a search may start later, where the test fails before
-pub found-later : {n : ℕ} {test : ℕ → Bool} {k m r : ℕ} → m ≤ n → ((j : ℕ) → j < m → test j ≡ false) → k ≤ m → Found n test k r → Found n test m r
-found-later {m = m} {r} h fails l f =
+pub found_later : {n : ℕ} {test : ℕ → Bool} {k m r : ℕ} → m ≤ n → ((j : ℕ) → j < m → test j ≡ false) → k ≤ m → Found n test k r → Found n test m r
+found_later {m = m} {r} h fails l f =
     record {
-      from = lt-or-le r m (λ a. absurd (true≢false (sym (f.found (omega arith)) ∙ fails r a))) (λ a. a);
+      from = lt_or_le r m (λ a. absurd (true≢false (sym (f.found (omega arith)) ∙ fails r a))) (λ a. a);
       upto = f.upto;
       skipped = λ j a b. f.skipped j (omega arith) b;
       found = f.found;
     }
 
 -- what does not change where the test fails is the same at k and at the place found
-pub found-same : {X : Type 0} (F : ℕ → X) {n : ℕ} {test : ℕ → Bool} {k r : ℕ} → ((j : ℕ) → test j ≡ false → F (j + 1) ≡ F j) → Found n test k r → F r ≡ F k
-found-same F {k = k} {r} h f = let e : k + (r - k) ≡ r = omega (arith, f.from) in rw e at (over (r - k) (omega (arith, f.from)))
+pub found_same : {X : Type 0} (F : ℕ → X) {n : ℕ} {test : ℕ → Bool} {k r : ℕ} → ((j : ℕ) → test j ≡ false → F (j + 1) ≡ F j) → Found n test k r → F r ≡ F k
+found_same F {k = k} {r} h f = let e : k + (r - k) ≡ r = omega (arith, f.from) in rw e at (over (r - k) (omega (arith, f.from)))
   where
     over : (d : ℕ) → k + d ≤ r → F (k + d) ≡ F k
     over zero l = ap F (add-zero k)

@@ -8,7 +8,7 @@ use Rattle.tree.specs.Operation.{Op, fold, pick, sum}
 use Rattle.tree.specs.Sides.{other}
 use Rattle.tree.specs.Turns.{turn}
 use Rattle.mechanism.specs.Views.{View}
-use Rattle.mechanism.specs.Spreading.{addIf}
+use Rattle.mechanism.specs.Spreading.{add_if}
 use Rattle.walk.specs.inner.Laters.{known, away, later}
 use Rattle.walk.specs.inner.Telling.{before}
 
@@ -29,30 +29,30 @@ module _ {A : Type 0} (op : Op A) (unit : (a : A) → op.◌⊕◌ a op.ε ≡ a
 
 module _ (q : View) where
   -- what u knows of its candidate c, where that is a neighbour but v; and where it is a neighbour that x is not beyond
-  abbrev pub fromOther : ℕ → ℕ → ℕ → ℤ
-  fromOther u v c = pick sum (other q.parents u v c) (known q c u)
+  abbrev pub from_other : ℕ → ℕ → ℕ → ℤ
+  from_other u v c = pick sum (other q.parents u v c) (known q c u)
 
-  abbrev pub fromAway : ℕ → ℕ → ℕ → ℤ
-  fromAway x u c = pick sum (away q x u c) (known q c u)
+  abbrev pub from_away : ℕ → ℕ → ℕ → ℤ
+  from_away x u c = pick sum (away q x u c) (known q c u)
 
-  pub before-is : (u v : ℕ) (z : ℤ) (k : ℕ) → before q u v z k ≡ (q.value u +ℤ z) +ℤ fold sum (λ j. fromOther u v (turn q.count u j)) k
+  pub before_is : (u v : ℕ) (z : ℤ) (k : ℕ) → before q u v z k ≡ (q.value u +ℤ z) +ℤ fold sum (λ j. from_other u v (turn q.count u j)) k
   unfolding before
-  before-is u v z zero = sym (+ℤ_idr (q.value u +ℤ z))
-  before-is u v z (suc k) =
+  before_is u v z zero = sym (+ℤ_idr (q.value u +ℤ z))
+  before_is u v z (suc k) =
       let c = turn q.count u k in
-      one (other q.parents u v c) (before q u v z k) (q.value u +ℤ z) (fold sum (λ j. fromOther u v (turn q.count u j)) k) (known q c u) (before-is u v z k)
+      one (other q.parents u v c) (before q u v z k) (q.value u +ℤ z) (fold sum (λ j. from_other u v (turn q.count u j)) k) (known q c u) (before_is u v z k)
     where
-      one : (b : Bool) (t a f h : ℤ) → t ≡ a +ℤ f → addIf sum q b t h ≡ a +ℤ (f +ℤ pick sum b h)
+      one : (b : Bool) (t a f h : ℤ) → t ≡ a +ℤ f → add_if sum q b t h ≡ a +ℤ (f +ℤ pick sum b h)
       one true t a f h e = ap (λ y. y +ℤ h) e ∙ +ℤ_assoc a f h
       one false t a f h e = rw (+ℤ_idr f) e
 
-  pub later-is : (x u m : ℕ) → later q x u m ≡ fold sum (λ i. fromAway x u (turn q.count u (q.count - suc i))) m
+  pub later_is : (x u m : ℕ) → later q x u m ≡ fold sum (λ i. from_away x u (turn q.count u (q.count - suc i))) m
   unfolding later
-  later-is x u zero = refl
-  later-is x u (suc m) =
+  later_is x u zero = refl
+  later_is x u (suc m) =
       let c = turn q.count u (q.count - suc m) in
-      one (away q x u c) (later q x u m) (fold sum (λ i. fromAway x u (turn q.count u (q.count - suc i))) m) (known q c u) (later-is x u m)
+      one (away q x u c) (later q x u m) (fold sum (λ i. from_away x u (turn q.count u (q.count - suc i))) m) (known q c u) (later_is x u m)
     where
-      one : (b : Bool) (t f h : ℤ) → t ≡ f → addIf sum q b t h ≡ f +ℤ pick sum b h
+      one : (b : Bool) (t f h : ℤ) → t ≡ f → add_if sum q b t h ≡ f +ℤ pick sum b h
       one true t f h e = ap (λ y. y +ℤ h) e
       one false t f h e = rw (+ℤ_idr f) e

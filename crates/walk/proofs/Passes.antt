@@ -17,15 +17,15 @@ use Rattle.tree.specs.Operation.{sum}
 use Rattle.tree.specs.Parents.{parent}
 use Rattle.tree.specs.Sides.{adjacent, below}
 use Rattle.tree.specs.Turns.{turn}
-use Rattle.tree.proofs.Cases.{either, order, lt-or-le}
-use Rattle.tree.proofs.Toward.{adjacent-ne}
+use Rattle.tree.proofs.Cases.{either, order, lt_or_le}
+use Rattle.tree.proofs.Toward.{adjacent_ne}
 use Rattle.session.specs.Holding.{pair_at}
 use Rattle.mechanism.specs.Views.{View}
-use Rattle.mechanism.specs.Spreading.{addIf}
-use Rattle.tree.proofs.Children.{child-is}
+use Rattle.mechanism.specs.Spreading.{add_if}
+use Rattle.tree.proofs.Children.{child_is}
 use Rattle.walk.specs.inner.Laters.{known, away, later, Passing, Passed, Cleared}
-use Rattle.walk.proofs.Neighbours.{near-below, near-self, near-above}
-use Rattle.walk.proofs.Ways.{Ahead, ahead_none, on-way, off-way, ahead-on, ahead-off}
+use Rattle.walk.proofs.Neighbours.{near_below, near_self, near_above}
+use Rattle.walk.proofs.Ways.{Ahead, ahead_none, on_way, off_way, ahead_on, ahead_off}
 
 -- the candidate at place k is k: all that follows knows the order by this alone
 turn_is : (n u k : ℕ) → turn n u k ≡ k
@@ -35,49 +35,49 @@ turn_is n u k = refl
 -- ---- what u knows of its candidates from c on is `later q x u (q.count - c)`
 
 module _ (q : View) (x u : ℕ) where
-  later-next : (w : ℕ) → w < q.count → later q x u (q.count - w) ≡ addIf sum q (away q x u w) (later q x u (q.count - suc w)) (known q w u)
+  later_next : (w : ℕ) → w < q.count → later q x u (q.count - w) ≡ add_if sum q (away q x u w) (later q x u (q.count - suc w)) (known q w u)
   unfolding later
-  later-next w h =
+  later_next w h =
       let e : q.count - w ≡ suc (q.count - suc w) = omega arith in
       let f : q.count - suc (q.count - suc w) ≡ w = omega arith in
       rw (e, f, turn_is)
 
   -- a candidate that is no neighbour adds nothing
-  later-far : (w : ℕ) → w < q.count → adjacent q.parents w u ≡ false → later q x u (q.count - w) ≡ later q x u (q.count - suc w)
-  later-far w h e = later-next w h ∙ rw e
+  later_far : (w : ℕ) → w < q.count → adjacent q.parents w u ≡ false → later q x u (q.count - w) ≡ later q x u (q.count - suc w)
+  later_far w h e = later_next w h ∙ rw e
 
-  later-over : (c d : ℕ) → c + d ≤ q.count → ((j : ℕ) → c ≤ j → j < c + d → adjacent q.parents j u ≡ false) → later q x u (q.count - c) ≡ later q x u (q.count - (c + d))
-  later-over c zero h e = ap (λ k. later q x u (q.count - k)) (sym (add-zero c))
-  later-over c (suc d) h e =
+  later_over : (c d : ℕ) → c + d ≤ q.count → ((j : ℕ) → c ≤ j → j < c + d → adjacent q.parents j u ≡ false) → later q x u (q.count - c) ≡ later q x u (q.count - (c + d))
+  later_over c zero h e = ap (λ k. later q x u (q.count - k)) (sym (add-zero c))
+  later_over c (suc d) h e =
       let same : suc (c + d) ≡ c + suc d = omega arith in
-      later-over c d (omega arith) (λ j a b. e j a (omega arith)) ∙ later-far (c + d) (omega arith) (e (c + d) (omega arith) (omega arith)) ∙ ap (λ k. later q x u (q.count - k)) same
+      later_over c d (omega arith) (λ j a b. e j a (omega arith)) ∙ later_far (c + d) (omega arith) (e (c + d) (omega arith) (omega arith)) ∙ ap (λ k. later q x u (q.count - k)) same
 
   -- there is no neighbour between the parent and the node
-  later-parent : u < q.count → parent q.parents u < u → later q x u (q.count - suc (parent q.parents u)) ≡ later q x u (q.count - u)
-  later-parent h l =
+  later_parent : u < q.count → parent q.parents u < u → later q x u (q.count - suc (parent q.parents u)) ≡ later q x u (q.count - u)
+  later_parent h l =
       let p = parent q.parents u in
       let e : suc p + (u - suc p) ≡ u = omega arith in
-      rw e at (later-over (suc p) (u - suc p) (omega arith) (λ j a b. near-below q.parents u j (omega arith) ∙ ne_eqb p j (λ o. omega arith)))
+      rw e at (later_over (suc p) (u - suc p) (omega arith) (λ j a b. near_below q.parents u j (omega arith) ∙ ne_eqb p j (λ o. omega arith)))
 
 -- of the nodes up to w, none but its parent is its neighbour
 far : (ps : List ℕ) (w u : ℕ) → u ≤ w → u ≢ parent ps w → adjacent ps w u ≡ false
-far ps w u l d = lt-or-le u w
-    (λ h. near-above ps u w h ∙ child-is ps u w h ∙ ne_eqb (parent ps w) u (λ e. d (sym e)))
-    (λ h. near-self ps u w (omega arith))
+far ps w u l d = lt_or_le u w
+    (λ h. near_above ps u w h ∙ child_is ps u w h ∙ ne_eqb (parent ps w) u (λ e. d (sym e)))
+    (λ h. near_self ps u w (omega arith))
 
 module _ (q : View) (x w : ℕ) (h : w < q.count) (less : parent q.parents w < w) where
   abbrev p : ℕ
   p = parent q.parents w
 
   beside : adjacent q.parents w p ≡ true
-  beside = near-above q.parents p w less ∙ child-is q.parents p w less ∙ eq-eqb p p refl
+  beside = near_above q.parents p w less ∙ child_is q.parents p w less ∙ eq-eqb p p refl
 
   -- the parent gets what it knows of w, where x is not below w
-  later-towards : below q.parents w x ≡ true → later q x p (q.count - w) ≡ later q x p (q.count - suc w)
-  later-towards b = later-next q x p w h ∙ rw (beside, lt-ltb p w less, b)
+  later_towards : below q.parents w x ≡ true → later q x p (q.count - w) ≡ later q x p (q.count - suc w)
+  later_towards b = later_next q x p w h ∙ rw (beside, lt-ltb p w less, b)
 
-  later-child : below q.parents w x ≡ false → later q x p (q.count - w) ≡ later q x p (q.count - suc w) +ℤ known q w p
-  later-child b = later-next q x p w h ∙ rw (beside, lt-ltb p w less, b)
+  later_child : below q.parents w x ≡ false → later q x p (q.count - w) ≡ later q x p (q.count - suc w) +ℤ known q w p
+  later_child b = later_next q x p w h ∙ rw (beside, lt-ltb p w less, b)
 
 -- ---- the loop
 
@@ -86,22 +86,22 @@ pub record Passes (q : View) (x : ℕ) (up down : List ℤ) (at i : ℕ) : Type 
   pub low : 0 < i
   pub high : i ≤ q.count
   pub up_room : length up ≡ 256
-  pub down-room : length down ≡ 256
+  pub down_room : length down ≡ 256
   pub ahead : Ahead q.parents x at i
   pub rising : (u : ℕ) → u < i → get_or up u (pos 0) ≡ later q x u (q.count - i)
   pub risen : (u : ℕ) → u < q.count → i ≤ u → get_or up u (pos 0) ≡ later q x u (q.count - u)
   pub kept : (w : ℕ) → w < q.count → i ≤ w → get_or down w (pos 0) ≡ later q x (parent q.parents w) (q.count - suc w)
 
-later-none : (q : View) (x u m : ℕ) → m ≡ 0 → later q x u m ≡ pos 0
+later_none : (q : View) (x u m : ℕ) → m ≡ 0 → later q x u m ≡ pos 0
 unfolding later
-later-none q x u m e = rw e
+later_none q x u m e = rw e
 
 -- one more place is cleared
-pub cleared-none : {l : List ℤ} → length l ≡ 256 → Cleared 0 l
-cleared-none long = record { long = long; zeros = λ u h. absurd (omega arith) }
+pub cleared_none : {l : List ℤ} → length l ≡ 256 → Cleared 0 l
+cleared_none long = record { long = long; zeros = λ u h. absurd (omega arith) }
 
-pub cleared-next : {l : List ℤ} {u : ℕ} → Cleared u l → u < 256 → Cleared (u + 1) (set l u (pos 0))
-cleared-next {l} {u} c h =
+pub cleared_next : {l : List ℤ} {u : ℕ} → Cleared u l → u < 256 → Cleared (u + 1) (set l u (pos 0))
+cleared_next {l} {u} c h =
     record {
       long = rw length-set c.long;
       zeros = λ v m. either (ℕ_discrete v u)
@@ -115,9 +115,9 @@ passes_none {q} {x} h c long =
       low = omega (arith, h.inside);
       high = le_refl q.count;
       up_room = c.long;
-      down-room = long;
+      down_room = long;
       ahead = ahead_none h.inside;
-      rising = λ u l. c.zeros u l ∙ sym (later-none q x u (q.count - q.count) (omega arith));
+      rising = λ u l. c.zeros u l ∙ sym (later_none q x u (q.count - q.count) (omega arith));
       risen = λ u l m. absurd (omega arith);
       kept = λ w l m. absurd (omega arith);
     }
@@ -140,11 +140,11 @@ module _ {q : View} {x : ℕ} {up down : List ℤ} {at i w p : ℕ} (t : Turning
   less : parent q.parents w < w
   less = t.passing.grown w t.some inside
 
-  pub parent-less : p < w
-  parent-less = rw t.is less
+  pub parent_less : p < w
+  parent_less = rw t.is less
 
   holds : get_or up p (pos 0) ≡ later q x p (q.count - suc w)
-  holds = s.rising p (omega (arith, parent-less))
+  holds = s.rising p (omega (arith, parent_less))
 
   -- where p holds what it is due, and all others what they held
   turned : {up' : List ℤ} {at' : ℕ} → Ahead q.parents x at' w → length up' ≡ 256 → get_or up' p (pos 0) ≡ later q x p (q.count - w) → ((u : ℕ) → u ≢ p → get_or up' u (pos 0) ≡ get_or up u (pos 0))
@@ -154,52 +154,52 @@ module _ {q : View} {x : ℕ} {up down : List ℤ} {at i w p : ℕ} (t : Turning
         low = t.some;
         high = omega (arith, inside);
         up_room = long;
-        down-room = rw length-set s.down-room;
+        down_room = rw length-set s.down_room;
         ahead = a;
         rising = λ u l. now u (omega arith);
         risen = λ u l m. either (ℕ_discrete u w)
             (λ e. rw e (now w (le_refl w)))
-            (λ d. others u (λ e. omega (arith, parent-less)) ∙ s.risen u l (omega arith));
+            (λ d. others u (λ e. omega (arith, parent_less)) ∙ s.risen u l (omega arith));
         kept = λ v l m. either (ℕ_discrete v w)
-            (λ e. rw (e, get_or-set_same down w (get_or up p (pos 0)) (pos 0) (omega (arith, inside, t.passing.room, s.down-room)), ← t.is) holds)
+            (λ e. rw (e, get_or-set_same down w (get_or up p (pos 0)) (pos 0) (omega (arith, inside, t.passing.room, s.down_room)), ← t.is) holds)
             (λ d. get_or-set_other down w v (get_or up p (pos 0)) (pos 0) d ∙ s.kept v l (omega arith));
       }
     where
       now : (u : ℕ) → u ≤ w → get_or up' u (pos 0) ≡ later q x u (q.count - w)
       now u l = either (ℕ_discrete u p)
           (λ e. rw e due)
-          (λ d. others u d ∙ s.rising u (omega arith) ∙ sym (later-far q x u w inside (far q.parents w u l (λ o. d (o ∙ sym t.is)))))
+          (λ d. others u d ∙ s.rising u (omega arith) ∙ sym (later_far q x u w inside (far q.parents w u l (λ o. d (o ∙ sym t.is)))))
 
   pub passes_on : w ≡ at → Passes q x up (set down w (get_or up p (pos 0))) p w
   passes_on e =
-      turned (rw t.is (ahead-on t.passing.grown inside s.ahead t.some e)) s.up_room
-      (holds ∙ rw t.is (sym (later-towards q x w inside less (on-way t.passing.grown inside s.ahead e)))) (λ u d. refl)
+      turned (rw t.is (ahead_on t.passing.grown inside s.ahead t.some e)) s.up_room
+      (holds ∙ rw t.is (sym (later_towards q x w inside less (on_way t.passing.grown inside s.ahead e)))) (λ u d. refl)
 
   module _ (d : w ≢ at) {z : ℤ} (knows : z ≡ known q w p) where
     due : get_or up p (pos 0) +ℤ z ≡ later q x p (q.count - w)
-    due = rw (knows, holds, t.is) (sym (later-child q x w inside less (off-way t.passing.grown inside s.ahead d)))
+    due = rw (knows, holds, t.is) (sym (later_child q x w inside less (off_way t.passing.grown inside s.ahead d)))
 
-    pub due-fits : SFits w64 (get_or up p (pos 0) +ℤ z)
-    due-fits = rw due (t.passing.fits p (q.count - w) (omega (arith, parent-less, inside)) (omega arith))
+    pub due_fits : SFits w64 (get_or up p (pos 0) +ℤ z)
+    due_fits = rw due (t.passing.fits p (q.count - w) (omega (arith, parent_less, inside)) (omega arith))
 
-    pub passes-off : {y : ℤ} → y ≡ get_or up p (pos 0) +ℤ z → Passes q x (set up p y) (set down w (get_or up p (pos 0))) at w
-    passes-off {y} e =
-        turned (ahead-off t.passing.grown inside s.ahead d) (rw length-set s.up_room)
-        (get_or-set_same up p y (pos 0) (omega (arith, parent-less, inside, t.passing.room, s.up_room)) ∙ e ∙ due)
+    pub passes_off : {y : ℤ} → y ≡ get_or up p (pos 0) +ℤ z → Passes q x (set up p y) (set down w (get_or up p (pos 0))) at w
+    passes_off {y} e =
+        turned (ahead_off t.passing.grown inside s.ahead d) (rw length-set s.up_room)
+        (get_or-set_same up p y (pos 0) (omega (arith, parent_less, inside, t.passing.room, s.up_room)) ∙ e ∙ due)
         (λ u o. get_or-set_other up p u y (pos 0) o)
 
 -- at last all are passed
-pub passed-all : {q : View} {x : ℕ} {up down : List ℤ} {at i : ℕ} → Passes q x up down at i → i ≤ 1 → Passed q x up down
+pub passed_all : {q : View} {x : ℕ} {up down : List ℤ} {at i : ℕ} → Passes q x up down at i → i ≤ 1 → Passed q x up down
 unfolding pair_at
-passed-all {q} {x} {up} {down} {at} {i} s l = record { laid = λ u k a b c. rw turn_is (laid u k a b (rw turn_is at c)) }
+passed_all {q} {x} {up} {down} {at} {i} s l = record { laid = λ u k a b c. rw turn_is (laid u k a b (rw turn_is at c)) }
   where
     ps : List ℕ
     ps = q.parents
 
     laid : (u k : ℕ) → u < q.count → k < q.count → adjacent ps k u ≡ true → pair_at (pos 0) up down u k ≡ later q x u (q.count - suc k)
     laid u k a b c = order k u
-        (λ m. let e : parent ps u ≡ k = eqb-true (parent ps u) k (sym (near-below ps u k m) ∙ c) in
-        rw (lt-ltb k u m) (s.risen u a (omega (arith, s.low)) ∙ sym (rw e at (later-parent q x u a (omega arith)))))
-        (λ e. absurd (adjacent-ne ps k u c e))
-        (λ m. let e : parent ps k ≡ u = eqb-true (parent ps k) u (sym (near-above ps u k m ∙ child-is ps u k m) ∙ c) in
+        (λ m. let e : parent ps u ≡ k = eqb-true (parent ps u) k (sym (near_below ps u k m) ∙ c) in
+        rw (lt-ltb k u m) (s.risen u a (omega (arith, s.low)) ∙ sym (rw e at (later_parent q x u a (omega arith)))))
+        (λ e. absurd (adjacent_ne ps k u c e))
+        (λ m. let e : parent ps k ≡ u = eqb-true (parent ps k) u (sym (near_above ps u k m ∙ child_is ps u k m) ∙ c) in
         rw (le-ltb k u (omega arith)) (rw e at (s.kept k b (omega (arith, s.low)))))

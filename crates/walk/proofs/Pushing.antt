@@ -2,24 +2,24 @@
 use mathlib.Core.Path.{◌≡◌, refl, ap, ◌∙◌}
 use mathlib.Core.List.{List, [], ◌∷◌, ◌++◌}
 use Rattle.messages.specs.declared.Message.{Message}
-use Rattle.trace.specs.inner.Traces.{Trace, pushed, pushedAll}
+use Rattle.trace.specs.inner.Traces.{Trace, pushed, pushed_all}
 
-pub pushedAll-none : (t : Trace) → pushedAll [] t ≡ t
-unfolding pushedAll
-pushedAll-none t = refl
+pub pushed_all-none : (t : Trace) → pushed_all [] t ≡ t
+unfolding pushed_all
+pushed_all-none t = refl
 
-pub pushedAll-append : (a b : List Message) (t : Trace) → pushedAll (a ++ b) t ≡ pushedAll b (pushedAll a t)
-unfolding pushedAll
-pushedAll-append [] b t = refl
-pushedAll-append (m ∷ ms) b t = pushedAll-append ms b (pushed m t)
+pub pushed_all-append : (a b : List Message) (t : Trace) → pushed_all (a ++ b) t ≡ pushed_all b (pushed_all a t)
+unfolding pushed_all
+pushed_all-append [] b t = refl
+pushed_all-append (m ∷ ms) b t = pushed_all-append ms b (pushed m t)
 
 -- an update, and what is said beyond it
-pub pushedAll-told : (first : Message) (ms : List Message) (t : Trace) {t₁ t₂ : Trace} → t₁ ≡ pushed first t → t₂ ≡ pushedAll ms t₁ → t₂ ≡ pushedAll (first ∷ ms) t
-unfolding pushedAll
-pushedAll-told first ms t e f = f ∙ ap (pushedAll ms) e
+pub pushed_all-told : (first : Message) (ms : List Message) (t : Trace) {t₁ t₂ : Trace} → t₁ ≡ pushed first t → t₂ ≡ pushed_all ms t₁ → t₂ ≡ pushed_all (first ∷ ms) t
+unfolding pushed_all
+pushed_all-told first ms t e f = f ∙ ap (pushed_all ms) e
 
 -- a probe, what is said beyond it, and the response; or an update and a release
-pub pushedAll-asked : (first last : Message) (ms : List Message) (t : Trace) {t₁ t₂ t₃ : Trace} → t₁ ≡ pushed first t → t₂ ≡ pushedAll ms t₁ → t₃ ≡ pushed last t₂
-    → t₃ ≡ pushedAll (first ∷ (ms ++ (last ∷ []))) t
-unfolding pushedAll
-pushedAll-asked first last ms t e f g = g ∙ rw (pushedAll-append, ← e, ← f)
+pub pushed_all-asked : (first last : Message) (ms : List Message) (t : Trace) {t₁ t₂ t₃ : Trace} → t₁ ≡ pushed first t → t₂ ≡ pushed_all ms t₁ → t₃ ≡ pushed last t₂
+    → t₃ ≡ pushed_all (first ∷ (ms ++ (last ∷ []))) t
+unfolding pushed_all
+pushed_all-asked first last ms t e f g = g ∙ rw (pushed_all-append, ← e, ← f)

@@ -21,48 +21,48 @@ use Rattle.messages.specs.declared.Message.{Message}
 use Rattle.messages.specs.declared.Message.TheVariants.{Update, Release}
 use Rattle.session.specs.Holding.{pair_at}
 use Rattle.mechanism.specs.Views.{View}
-use Rattle.mechanism.specs.Spreading.{addIf, carried, sends, spread}
-use Rattle.mechanism.proofs.Others.{size-most}
-use Rattle.trace.specs.inner.Traces.{Trace, pushed, pushedAll}
-use Rattle.walk.specs.inner.Links.{Found, neighbourAt, Placed}
+use Rattle.mechanism.specs.Spreading.{add_if, carried, sends, spread}
+use Rattle.mechanism.proofs.Others.{size_most}
+use Rattle.trace.specs.inner.Traces.{Trace, pushed, pushed_all}
+use Rattle.walk.specs.inner.Links.{Found, neighbour_at, Placed}
 use Rattle.walk.specs.inner.Laters.{known}
 use Rattle.walk.specs.inner.Telling.{before, Spreading, Telling, Spread, Told}
-use Rattle.walk.proofs.Finding.{found-same}
-use Rattle.walk.proofs.Pushing.{pushedAll-none, pushedAll-append, pushedAll-told, pushedAll-asked}
+use Rattle.walk.proofs.Finding.{found_same}
+use Rattle.walk.proofs.Pushing.{pushed_all-none, pushed_all-append, pushed_all-told, pushed_all-asked}
 use Rattle.walk.proofs.Split.{split}
-use Rattle.walk.proofs.Reaching.{range-wide, before-in, carried-in}
-use Rattle.walk.proofs.Coming.{come-on}
+use Rattle.walk.proofs.Reaching.{range_wide, before_in, carried_in}
+use Rattle.walk.proofs.Coming.{come_on}
 
 -- ---- what u, told z by v, sends to w; l is what `reads::lease` returned
 
-abbrev sendsTo : View → ℕ → ℕ → ℕ → ℤ → ℕ → List Message
-sendsTo q f u v z w = sends sum q (other q.parents u v w) (q.lease u w) (spread sum q f) u v z w
+abbrev sends_to : View → ℕ → ℕ → ℕ → ℤ → ℕ → List Message
+sends_to q f u v z w = sends sum q (other q.parents u v w) (q.lease u w) (spread sum q f) u v z w
 
 module _ (q : View) (u v w : ℕ) where
-  other-back : w ≡ v → other q.parents u v w ≡ false
-  other-back e = rw (eq-eqb v w (sym e), and-false)
+  other_back : w ≡ v → other q.parents u v w ≡ false
+  other_back e = rw (eq-eqb v w (sym e), and-false)
 
-  other-far : adjacent q.parents w u ≡ false → other q.parents u v w ≡ false
-  other-far e = rw e
+  other_far : adjacent q.parents w u ≡ false → other q.parents u v w ≡ false
+  other_far e = rw e
 
-  other-yes : adjacent q.parents w u ≡ true → w ≢ v → other q.parents u v w ≡ true
-  other-yes a d = rw (a, ne_eqb v w (λ e. d (sym e)))
+  other_yes : adjacent q.parents w u ≡ true → w ≢ v → other q.parents u v w ≡ true
+  other_yes a d = rw (a, ne_eqb v w (λ e. d (sym e)))
 
   module _ (f : ℕ) (z : ℤ) where
-    sends-not : other q.parents u v w ≡ false → sendsTo q f u v z w ≡ []
+    sends_not : other q.parents u v w ≡ false → sends_to q f u v z w ≡ []
     unfolding sends
-    sends-not e = rw e
+    sends_not e = rw e
 
     module _ (yes : other q.parents u v w ≡ true) {l : ℕ} (leased : l ≡ q.lease u w) where
-      sends_none : l ≡ 0 → sendsTo q f u v z w ≡ []
+      sends_none : l ≡ 0 → sends_to q f u v z w ≡ []
       unfolding sends
       sends_none e = rw (yes, ← leased, e)
 
-      sends-last : l ≡ 1 → sendsTo q f u v z w ≡ Update u w (carried sum q u v z w) ∷ (spread sum q f w u (carried sum q u v z w) ++ (Release w u ∷ []))
+      sends_last : l ≡ 1 → sends_to q f u v z w ≡ Update u w (carried sum q u v z w) ∷ (spread sum q f w u (carried sum q u v z w) ++ (Release w u ∷ []))
       unfolding sends
-      sends-last e = rw (yes, ← leased, e)
+      sends_last e = rw (yes, ← leased, e)
 
-      sends_more : l ≢ 0 → l ≢ 1 → sendsTo q f u v z w ≡ Update u w (carried sum q u v z w) ∷ spread sum q f w u (carried sum q u v z w)
+      sends_more : l ≢ 0 → l ≢ 1 → sends_to q f u v z w ≡ Update u w (carried sum q u v z w) ∷ spread sum q f w u (carried sum q u v z w)
       unfolding sends
       sends_more some d = rw yes (go (q.lease u w) (rw leased at some) (rw leased at d))
         where
@@ -75,7 +75,7 @@ module _ (q : View) (u v w : ℕ) where
 
 module _ {q : View} {u v : ℕ} {z : ℤ} {w : ℕ} {y : ℤ} where
   pub told_back : w ≡ v → {f : ℕ} {t : Trace} → Told q f u v z w y t y t
-  told_back e {f} {t} = record { sums = rw (other-back q u v w e); logs = rw (sends-not q u v w f z (other-back q u v w e), pushedAll-none t) }
+  told_back e {f} {t} = record { sums = rw (other_back q u v w e); logs = rw (sends_not q u v w f z (other_back q u v w e), pushed_all-none t) }
 
   module _ {first next : List ℕ} {later-up later-down : List ℤ} (h : Telling q first next later-up later-down u v z w y) where
     here : w < q.count
@@ -89,16 +89,16 @@ module _ {q : View} {u v : ℕ} {z : ℤ} {w : ℕ} {y : ℤ} where
     at = h.spreading
 
     yes : other q.parents u v w ≡ true
-    yes = other-yes q u v w h.beside d
+    yes = other_yes q u v w h.beside d
 
-    pub adds-fits : {a : ℤ} → a ≡ known q w u → SFits w64 (y +ℤ a)
+    pub adds_fits : {a : ℤ} → a ≡ known q w u → SFits w64 (y +ℤ a)
     unfolding before
-    adds-fits {a} e =
-        range-wide q.count q.count (y +ℤ a) at.steady.room (le_refl q.count)
-        (rw (e, h.sums) (rw (h.turned, yes) at (before-in q at.steady at.x u v z at.told at.inside at.come (suc h.place) h.inside)))
+    adds_fits {a} e =
+        range_wide q.count q.count (y +ℤ a) at.steady.room (le_refl q.count)
+        (rw (e, h.sums) (rw (h.turned, yes) at (before_in q at.steady at.x u v z at.told at.inside at.come (suc h.place) h.inside)))
 
     pub told_none : {a y' : ℤ} → a ≡ known q w u → y' ≡ y +ℤ a → {l : ℕ} → l ≡ q.lease u w → l ≡ 0 → {f : ℕ} {t : Trace} → Told q f u v z w y t y' t
-    told_none e i leased n {f} {t} = record { sums = rw (yes, ← e) i; logs = rw (sends_none q u v w f z yes leased n, pushedAll-none t) }
+    told_none e i leased n {f} {t} = record { sums = rw (yes, ← e) i; logs = rw (sends_none q u v w f z yes leased n, pushed_all-none t) }
 
     module _ {l : ℕ} (leased : l ≡ q.lease u w) (some : l ≢ 0) {b : ℤ} (laid : b ≡ pair_at (pos 0) later-up later-down u w) where
       -- what u sends to w: its sum before w, and what was laid by
@@ -108,15 +108,15 @@ module _ {q : View} {u v : ℕ} {z : ℤ} {w : ℕ} {y : ℤ} where
           ∙ ap₂ ◌+ℤ◌ (sym h.sums) (sym (laid ∙ rw h.turned at (at.passed.laid u h.place at.inside h.inside (rw h.turned h.beside)))))
 
       part : Range (size q.parents q.count u w) (y +ℤ b)
-      part = rw whole (carried-in q at.steady at.x u v z at.told at.inside at.come w (here h) yes (rw leased at some))
+      part = rw whole (carried_in q at.steady at.x u v z at.told at.inside at.come w (here h) yes (rw leased at some))
 
-      pub sends-fits : SFits w64 (y +ℤ b)
-      sends-fits =
-          range-wide q.count (size q.parents q.count u w) (y +ℤ b) at.steady.room (size-most q.parents q.count at.steady.grown u w at.inside (here h) h.beside) part
+      pub sends_fits : SFits w64 (y +ℤ b)
+      sends_fits =
+          range_wide q.count (size q.parents q.count u w) (y +ℤ b) at.steady.room (size_most q.parents q.count at.steady.grown u w at.inside (here h) h.beside) part
 
       module _ {p : ℤ} (e : p ≡ y +ℤ b) where
-        pub spreading-on : Spreading q first next later-up later-down w u p
-        spreading-on =
+        pub spreading_on : Spreading q first next later-up later-down w u p
+        spreading_on =
             record {
               x = at.x;
               start = at.start;
@@ -125,7 +125,7 @@ module _ {q : View} {u v : ℕ} {z : ℤ} {w : ℕ} {y : ℤ} where
               steady = at.steady;
               linked = at.linked;
               passed = at.passed;
-              told = come-on q at.x at.steady.grown at.start u v w z p at.inside (here h) at.told yes (rw e part);
+              told = come_on q at.x at.steady.grown at.start u v w z p at.inside (here h) at.told yes (rw e part);
             }
 
         same : p ≡ carried sum q u v z w
@@ -133,101 +133,101 @@ module _ {q : View} {u v : ℕ} {z : ℤ} {w : ℕ} {y : ℤ} where
 
         -- an update, what is said beyond it, and a release where the number falls to 0
         module _ {a y' : ℤ} (adds : a ≡ known q w u) (i : y' ≡ y +ℤ a) {f : ℕ} {t t₁ t₂ : Trace} (pushes : t₁ ≡ pushed (Update u w p) t) (goes : Spread q f w u p t₁ t₂) where
-          pub told-last : l ≡ 1 → {t₃ : Trace} → t₃ ≡ pushed (Release w u) t₂ → Told q f u v z w y t y' t₃
-          told-last n r =
+          pub told_last : l ≡ 1 → {t₃ : Trace} → t₃ ≡ pushed (Release w u) t₂ → Told q f u v z w y t y' t₃
+          told_last n r =
               record {
                 sums = rw (yes, ← adds) i;
-                logs = rw (sends-last q u v w f z yes leased n, ← same) (pushedAll-asked (Update u w p) (Release w u) (spread sum q f w u p) t pushes goes.logs r);
+                logs = rw (sends_last q u v w f z yes leased n, ← same) (pushed_all-asked (Update u w p) (Release w u) (spread sum q f w u p) t pushes goes.logs r);
               }
 
           pub told_more : l ≢ 1 → Told q f u v z w y t y' t₂
           told_more n =
-              record { sums = rw (yes, ← adds) i; logs = rw (sends_more q u v w f z yes leased some n, ← same) (pushedAll-told (Update u w p) (spread sum q f w u p) t pushes goes.logs) }
+              record { sums = rw (yes, ← adds) i; logs = rw (sends_more q u v w f z yes leased some n, ← same) (pushed_all-told (Update u w p) (spread sum q f w u p) t pushes goes.logs) }
 
 -- ---- the turns of `spread`
 
 -- what u, told z by v, sends to its first k candidates
 abbrev sent : View → ℕ → ℕ → ℕ → ℤ → ℕ → List Message
-sent q f u v z k = joined (λ j. sendsTo q f u v z (turn q.count u j)) k
+sent q f u v z k = joined (λ j. sends_to q f u v z (turn q.count u j)) k
 
 -- its sum before the place k, and its messages after those of t
 pub record Partly (q : View) (f u v : ℕ) (z : ℤ) (k : ℕ) (t : Trace) (y : ℤ) (t' : Trace) : Type 0 where
   pub sums : y ≡ before q u v z k
-  pub logs : t' ≡ pushedAll (sent q f u v z k) t
+  pub logs : t' ≡ pushed_all (sent q f u v z k) t
 
 -- the same where k is the place of a neighbour, or the last candidate is taken
 pub record Standing (q : View) (f u v : ℕ) (z : ℤ) (k : ℕ) (t : Trace) (y : ℤ) (t' : Trace) : Type 0 where
   pub upto : k ≤ q.count
-  pub beside : k < q.count → neighbourAt q.count q.parents u k ≡ true
+  pub beside : k < q.count → neighbour_at q.count q.parents u k ≡ true
   pub partly : Partly q f u v z k t y t'
 
 module _ (q : View) (u v : ℕ) (z : ℤ) where
-  before-next : (k : ℕ) → before q u v z (k + 1) ≡ addIf sum q (other q.parents u v (turn q.count u k)) (before q u v z k) (known q (turn q.count u k) u)
+  before_next : (k : ℕ) → before q u v z (k + 1) ≡ add_if sum q (other q.parents u v (turn q.count u k)) (before q u v z k) (known q (turn q.count u k) u)
   unfolding before
-  before-next k = rw add-one
+  before_next k = rw add-one
 
-  sent-next : (f k : ℕ) → sent q f u v z (k + 1) ≡ sent q f u v z k ++ sendsTo q f u v z (turn q.count u k)
+  sent_next : (f k : ℕ) → sent q f u v z (k + 1) ≡ sent q f u v z k ++ sends_to q f u v z (turn q.count u k)
   unfolding joined
-  sent-next f k = rw add-one
+  sent_next f k = rw add-one
 
   -- candidates that are no neighbours change nothing, so a walk may go from neighbour to neighbour
-  before-far : (k : ℕ) → neighbourAt q.count q.parents u k ≡ false → before q u v z (k + 1) ≡ before q u v z k
-  unfolding neighbourAt
-  before-far k e = rw (before-next k, other-far q u v (turn q.count u k) e)
+  before_far : (k : ℕ) → neighbour_at q.count q.parents u k ≡ false → before q u v z (k + 1) ≡ before q u v z k
+  unfolding neighbour_at
+  before_far k e = rw (before_next k, other_far q u v (turn q.count u k) e)
 
-  sent-far : (f k : ℕ) → neighbourAt q.count q.parents u k ≡ false → sent q f u v z (k + 1) ≡ sent q f u v z k
-  unfolding neighbourAt
-  sent-far f k e = sent-next f k ∙ ap (λ s. sent q f u v z k ++ s) (sends-not q u v (turn q.count u k) f z (other-far q u v (turn q.count u k) e)) ∙ append-nil (sent q f u v z k)
+  sent_far : (f k : ℕ) → neighbour_at q.count q.parents u k ≡ false → sent q f u v z (k + 1) ≡ sent q f u v z k
+  unfolding neighbour_at
+  sent_far f k e = sent_next f k ∙ ap (λ s. sent q f u v z k ++ s) (sends_not q u v (turn q.count u k) f z (other_far q u v (turn q.count u k) e)) ∙ append-nil (sent q f u v z k)
 
-  spread-some : (f : ℕ) → f ≢ 0 → spread sum q f u v z ≡ sent q (f - 1) u v z q.count
+  spread_some : (f : ℕ) → f ≢ 0 → spread sum q f u v z ≡ sent q (f - 1) u v z q.count
   unfolding spread
-  spread-some zero d = absurd (d refl)
-  spread-some (suc f) d = rw sub-one
+  spread_some zero d = absurd (d refl)
+  spread_some (suc f) d = rw sub-one
 
 module _ {q : View} {u v : ℕ} {z : ℤ} where
   pub start_fits : {first next : List ℕ} {later-up later-down : List ℤ} → Spreading q first next later-up later-down u v z → SFits w64 (q.value u +ℤ z)
   unfolding before
   start_fits s =
-      range-wide q.count q.count (q.value u +ℤ z) s.steady.room (le_refl q.count) (before-in q s.steady s.x u v z s.told s.inside s.come 0 (omega arith))
+      range_wide q.count q.count (q.value u +ℤ z) s.steady.room (le_refl q.count) (before_in q s.steady s.x u v z s.told s.inside s.come 0 (omega arith))
 
   module _ {f : ℕ} {t : Trace} {y : ℤ} where
     pub partly_none : y ≡ q.value u +ℤ z → Partly q f u v z 0 t y t
-    unfolding before joined pushedAll
+    unfolding before joined pushed_all
     partly_none e = record { sums = e; logs = refl }
 
-    pub partly-next : {k w : ℕ} {y' : ℤ} {t₁ t₂ : Trace} → w ≡ turn q.count u k → Partly q f u v z k t y t₁ → Told q f u v z w y t₁ y' t₂ → Partly q f u v z (k + 1) t y' t₂
-    partly-next {k} e a b =
+    pub partly_next : {k w : ℕ} {y' : ℤ} {t₁ t₂ : Trace} → w ≡ turn q.count u k → Partly q f u v z k t y t₁ → Told q f u v z w y t₁ y' t₂ → Partly q f u v z (k + 1) t y' t₂
+    partly_next {k} e a b =
         record {
-          sums = rw (before-next q u v z k, ← e, ← a.sums) b.sums;
-          logs = rw (sent-next q u v z f k, pushedAll-append, ← e, ← a.logs) b.logs;
+          sums = rw (before_next q u v z k, ← e, ← a.sums) b.sums;
+          logs = rw (sent_next q u v z f k, pushed_all-append, ← e, ← a.logs) b.logs;
         }
 
-    pub stand : {k r : ℕ} {t' : Trace} → Found q.count (neighbourAt q.count q.parents u) k r → Partly q f u v z k t y t' → Standing q f u v z r t y t'
+    pub stand : {k r : ℕ} {t' : Trace} → Found q.count (neighbour_at q.count q.parents u) k r → Partly q f u v z k t y t' → Standing q f u v z r t y t'
     stand h a =
         record {
           upto = h.upto;
           beside = h.found;
           partly =
               record {
-                sums = a.sums ∙ sym (found-same (before q u v z) (before-far q u v z) h);
-                logs = a.logs ∙ ap (λ s. pushedAll s t) (sym (found-same (sent q f u v z) (sent-far q u v z f) h));
+                sums = a.sums ∙ sym (found_same (before q u v z) (before_far q u v z) h);
+                logs = a.logs ∙ ap (λ s. pushed_all s t) (sym (found_same (sent q f u v z) (sent_far q u v z f) h));
               };
         }
 
     pub telling : {first next : List ℕ} {later-up later-down : List ℤ} {k w : ℕ} {t' : Trace}
         → Spreading q first next later-up later-down u v z → k < q.count → w ≡ turn q.count u k → Standing q f u v z k t y t' → Telling q first next later-up later-down u v z w y
-    unfolding neighbourAt
+    unfolding neighbour_at
     telling {k = k} s h e a = record { spreading = s; place = k; inside = h; turned = sym e; beside = rw e (a.beside h); sums = a.partly.sums }
 
     pub placed : {first next : List ℕ} {later-up later-down : List ℤ} {k : ℕ} {t' : Trace} {z' : ℤ}
         → Spreading q first next later-up later-down u v z' → k < q.count → Standing q f u v z k t y t' → Placed q.count q.parents first next u k
     placed s h a = record { room = s.steady.room; inside = s.inside; place = h; beside = a.beside h; linked = s.linked }
 
-    pub spread-all : {k : ℕ} {t' : Trace} → f ≢ 0 → q.count ≤ k → Standing q (f - 1) u v z k t y t' → Spread q f u v z t t'
-    spread-all {k} d l h =
+    pub spread_all : {k : ℕ} {t' : Trace} → f ≢ 0 → q.count ≤ k → Standing q (f - 1) u v z k t y t' → Spread q f u v z t t'
+    spread_all {k} d l h =
         let e : k ≡ q.count = omega (arith, h.upto) in
-        record { logs = rw (spread-some q u v z f d) (rw e at h.partly.logs) }
+        record { logs = rw (spread_some q u v z f d) (rw e at h.partly.logs) }
 
   pub spread_none : {f : ℕ} {t : Trace} → f ≡ 0 → Spread q f u v z t t
-  unfolding spread pushedAll
+  unfolding spread pushed_all
   spread_none e = record { logs = rw e }

@@ -10,11 +10,11 @@ use Rattle.tree.specs.Operation.{sum}
 use Rattle.tree.specs.Sides.{adjacent, other}
 use Rattle.tree.specs.Turns.{turn}
 use Rattle.tree.proofs.Cases.{order}
-use Rattle.tree.proofs.Lists.{joined-none}
+use Rattle.tree.proofs.Lists.{joined_none}
 use Rattle.messages.specs.declared.Message.{Message}
 use Rattle.mechanism.specs.Views.{View}
 use Rattle.mechanism.specs.Spreading.{sends, spread, write}
-use Rattle.walk.specs.inner.Links.{Found, Linked, neighbourAt, Placed}
+use Rattle.walk.specs.inner.Links.{Found, Linked, neighbour_at, Placed}
 use Rattle.walk.specs.inner.Telling.{SilentUpTo}
 
 -- ---- from neighbour to neighbour
@@ -22,15 +22,15 @@ use Rattle.walk.specs.inner.Telling.{SilentUpTo}
 -- the candidates before k are silent, and k is the place of a neighbour, or the last candidate is taken
 pub record Hushed (n : ℕ) (ps : List ℕ) (lease : ℕ → ℕ → ℕ) (x k : ℕ) : Type 0 where
   pub upto : k ≤ n
-  pub beside : k < n → neighbourAt n ps x k ≡ true
+  pub beside : k < n → neighbour_at n ps x k ≡ true
   pub silent : SilentUpTo n ps lease x k
 
 module _ {n : ℕ} {ps : List ℕ} {lease : ℕ → ℕ → ℕ} {x : ℕ} where
-  pub hushed-first : {r : ℕ} → Found n (neighbourAt n ps x) 0 r → Hushed n ps lease x r
-  hushed-first f = record { upto = f.upto; beside = f.found; silent = record { none = λ j l b. absurd (true≢false (sym b ∙ f.skipped j (omega arith) l)) } }
+  pub hushed_first : {r : ℕ} → Found n (neighbour_at n ps x) 0 r → Hushed n ps lease x r
+  hushed_first f = record { upto = f.upto; beside = f.found; silent = record { none = λ j l b. absurd (true≢false (sym b ∙ f.skipped j (omega arith) l)) } }
 
-  pub hushed-next : {k r w : ℕ} → Hushed n ps lease x k → w ≡ turn n x k → lease x w ≡ 0 → Found n (neighbourAt n ps x) (k + 1) r → Hushed n ps lease x r
-  hushed-next {k} h e z f =
+  pub hushed_next : {k r w : ℕ} → Hushed n ps lease x k → w ≡ turn n x k → lease x w ≡ 0 → Found n (neighbour_at n ps x) (k + 1) r → Hushed n ps lease x r
+  hushed_next {k} h e z f =
       record {
         upto = f.upto;
         beside = f.found;
@@ -42,11 +42,11 @@ module _ {n : ℕ} {ps : List ℕ} {lease : ℕ → ℕ → ℕ} {x : ℕ} where
         };
       }
 
-  pub hushed-place : {first next : List ℕ} {k : ℕ} → n ≤ 256 → x < n → Linked n ps first next → k < n → Hushed n ps lease x k → Placed n ps first next x k
-  hushed-place few inside linked l h = record { room = few; inside = inside; place = l; beside = h.beside l; linked = linked }
+  pub hushed_place : {first next : List ℕ} {k : ℕ} → n ≤ 256 → x < n → Linked n ps first next → k < n → Hushed n ps lease x k → Placed n ps first next x k
+  hushed_place few inside linked l h = record { room = few; inside = inside; place = l; beside = h.beside l; linked = linked }
 
-  pub hushed-all : {k : ℕ} → n ≤ k → Hushed n ps lease x k → SilentUpTo n ps lease x n
-  hushed-all l h = record { none = λ j m b. h.silent.none j (omega arith) b }
+  pub hushed_all : {k : ℕ} → n ≤ k → Hushed n ps lease x k → SilentUpTo n ps lease x n
+  hushed_all l h = record { none = λ j m b. h.silent.none j (omega arith) b }
 
 -- ---- the walk
 
@@ -55,18 +55,18 @@ module _ (q : View) (x : ℕ) where
   unfolding sends
   unsent next z w h = go (adjacent q.parents w x) refl
     where
-      zero-sends : (b : Bool) → sends sum q b 0 next x x z w ≡ []
-      zero-sends true = refl
-      zero-sends false = refl
+      zero_sends : (b : Bool) → sends sum q b 0 next x x z w ≡ []
+      zero_sends true = refl
+      zero_sends false = refl
 
       go : (b : Bool) → adjacent q.parents w x ≡ b → sends sum q (other q.parents x x w) (q.lease x w) next x x z w ≡ []
-      go true e = rw (h e) (zero-sends (other q.parents x x w))
+      go true e = rw (h e) (zero_sends (other q.parents x x w))
       go false e = rw e
 
-  silent-spread : (f : ℕ) (z : ℤ) → f ≢ 0 → SilentUpTo q.count q.parents q.lease x q.count → spread sum q f x x z ≡ []
-  unfolding spread neighbourAt
-  silent-spread zero z d s = absurd (d refl)
-  silent-spread (suc f) z d s = joined-none _ q.count (λ k l. unsent (spread sum q f) z (turn q.count x k) (s.none k l))
+  silent_spread : (f : ℕ) (z : ℤ) → f ≢ 0 → SilentUpTo q.count q.parents q.lease x q.count → spread sum q f x x z ≡ []
+  unfolding spread neighbour_at
+  silent_spread zero z d s = absurd (d refl)
+  silent_spread (suc f) z d s = joined_none _ q.count (λ k l. unsent (spread sum q f) z (turn q.count x k) (s.none k l))
 
-  pub silent-write : x < q.count → SilentUpTo q.count q.parents q.lease x q.count → write sum q x ≡ []
-  silent-write inside s = silent-spread q.count sum.ε (λ e. omega (arith, inside)) s
+  pub silent_write : x < q.count → SilentUpTo q.count q.parents q.lease x q.count → write sum q x ≡ []
+  silent_write inside s = silent_spread q.count sum.ε (λ e. omega (arith, inside)) s

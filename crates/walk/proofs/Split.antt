@@ -13,14 +13,14 @@ use Rattle.tree.specs.Sides.{adjacent, side, other}
 use Rattle.tree.specs.Turns.{turn}
 use Rattle.tree.proofs.Cases.{either}
 use Rattle.tree.proofs.Folds.{same, pull}
-use Rattle.tree.proofs.Turns.{turn_inside, turn-once, any_order}
+use Rattle.tree.proofs.Turns.{turn_inside, turn_once, any_order}
 use Rattle.mechanism.specs.Views.{View}
 use Rattle.mechanism.specs.Spreading.{carried}
 use Rattle.mechanism.proofs.Others.{others}
-use Rattle.mechanism.proofs.Aggregates.{total-is}
+use Rattle.mechanism.proofs.Aggregates.{total_is}
 use Rattle.walk.specs.inner.Laters.{known_by, known, away, later}
 use Rattle.walk.specs.inner.Telling.{Steady, Come, before}
-use Rattle.walk.proofs.Halves.{cut, fromOther, fromAway, before-is, later-is}
+use Rattle.walk.proofs.Halves.{cut, from_other, from_away, before_is, later_is}
 
 -- what is known where there is a lease
 known_is : (q : View) (c u : ℕ) → q.lease c u ≢ 0 → known q c u ≡ q.cache c u
@@ -28,13 +28,13 @@ unfolding known_by
 known_is q c u d = rw (ne_eqb (q.lease c u) 0 d)
 
 -- where u may tell w, its other neighbours have told it
-pub told-by : (q : View) (u w : ℕ) → Steady q → u < q.count → w < q.count → adjacent q.parents w u ≡ true → q.lease u w ≢ 0
+pub told_by : (q : View) (u w : ℕ) → Steady q → u < q.count → w < q.count → adjacent q.parents w u ≡ true → q.lease u w ≢ 0
     → (c : ℕ) → c < q.count → adjacent q.parents c u ≡ true → c ≢ w → q.lease c u ≢ 0
-told-by q u w steady hu hw near leased c hc a d e = leased (omega (arith, steady.ordered c u w hc hu hw a near d))
+told_by q u w steady hu hw near leased c hc a d e = leased (omega (arith, steady.ordered c u w hc hu hw a near d))
 
 -- the neighbours of u that x is not beyond are those but v
-away-is : (q : View) (x u v : ℕ) (z : ℤ) → Come q x u v z → (c : ℕ) → c < q.count → away q x u c ≡ other q.parents u v c
-away-is q x u v z come c hc = go (adjacent q.parents c u) (come.toward c hc)
+away_is : (q : View) (x u v : ℕ) (z : ℤ) → Come q x u v z → (c : ℕ) → c < q.count → away q x u c ≡ other q.parents u v c
+away_is q x u v z come c hc = go (adjacent q.parents c u) (come.toward c hc)
   where
     turned : eqb c v ≡ eqb v c
     turned = either (ℕ_discrete c v) (λ e. rw (eq-eqb c v e, eq-eqb v c (sym e))) (λ d. rw (ne_eqb c v d, ne_eqb v c (λ e. d (sym e))))
@@ -62,10 +62,10 @@ module _ (q : View) (x u v : ℕ) (z : ℤ) (w k : ℕ) (steady : Steady q) (com
   abbrev third : ℕ → Bool
   third c = other q.parents u v c && not (eqb w c)
 
-  third-term : (c : ℕ) → c < q.count → c ≢ v → pick sum (other q.parents u w c) (has c) ≡ pick sum (third c) (known q c u)
-  third-term c hc d = either (ℕ_discrete c w)
+  third_term : (c : ℕ) → c < q.count → c ≢ v → pick sum (other q.parents u w c) (has c) ≡ pick sum (third c) (known q c u)
+  third_term c hc d = either (ℕ_discrete c w)
       (λ e. rw (eq-eqb w c (sym e), and-false, and-false))
-      (λ f. rw (ne_eqb w c (λ e. f (sym e)), ne_eqb c v d, ne_eqb v c (λ e. d (sym e)), and-true, and-true) (go (adjacent q.parents c u) (λ a. known_is q c u (told-by q u w steady hu hw near leased c hc a f))))
+      (λ f. rw (ne_eqb w c (λ e. f (sym e)), ne_eqb c v d, ne_eqb v c (λ e. d (sym e)), and-true, and-true) (go (adjacent q.parents c u) (λ a. known_is q c u (told_by q u w steady hu hw near leased c hc a f))))
     where
       go : (a : Bool) → (a ≡ true → known q c u ≡ q.cache c u) → pick sum a (q.cache c u) ≡ pick sum a (known q c u)
       go true h = sym (h refl)
@@ -87,22 +87,22 @@ module _ (q : View) (x u v : ℕ) (z : ℤ) (w k : ℕ) (steady : Steady q) (com
           ∙ ap₂ ◌+ℤ◌ told (same sum (λ c. pick sum (not (eqb c v) && other q.parents u w c) (has c)) (λ c. pick sum (third c) (known q c u)) q.count
           (λ c hc. either (ℕ_discrete c v)
           (λ e. rw (back c e, eq-eqb c v e))
-          (λ d. ap (λ b. pick sum (not b && other q.parents u w c) (has c)) (ne_eqb c v d) ∙ third-term c hc d)))
+          (λ d. ap (λ b. pick sum (not b && other q.parents u w c) (has c)) (ne_eqb c v d) ∙ third_term c hc d)))
       go false a =
           same sum (λ c. pick sum (other q.parents u w c) (has c)) (λ c. pick sum (third c) (known q c u)) q.count
           (λ c hc. either (ℕ_discrete c v)
           (λ e. rw (back c e, e, a))
-          (third-term c hc))
+          (third_term c hc))
           ∙ sym (ap (λ y. y +ℤ aggregate sum (λ c. known q c u) third q.count) (come.nothing a) ∙ +ℤ_idl (aggregate sum (λ c. known q c u) third q.count))
 
   -- the place of w is empty, those below it are before, those above it are after
-  parted : aggregate sum (λ c. known q c u) third q.count ≡ fold sum (λ j. fromOther q u v (turn q.count u j)) k +ℤ later q x u (q.count - suc k)
+  parted : aggregate sum (λ c. known q c u) third q.count ≡ fold sum (λ j. from_other q u v (turn q.count u j)) k +ℤ later q x u (q.count - suc k)
   parted =
       let m = q.count - suc k in
       let e : q.count - m ≡ suc k = omega arith in
       sym (any_order q.count u hu ℤ sum term)
       ∙ rw e at (cut sum +ℤ_idr (λ j. term (turn q.count u j)) q.count m (omega arith))
-      ∙ ap₂ ◌+ℤ◌ (ap₂ ◌+ℤ◌ low empty ∙ +ℤ_idr (fold sum (λ j. fromOther q u v (turn q.count u j)) k)) (high ∙ sym (later-is q x u m))
+      ∙ ap₂ ◌+ℤ◌ (ap₂ ◌+ℤ◌ low empty ∙ +ℤ_idr (fold sum (λ j. from_other q u v (turn q.count u j)) k)) (high ∙ sym (later_is q x u m))
     where
       term : ℕ → ℤ
       term c = pick sum (third c) (known q c u)
@@ -110,24 +110,24 @@ module _ (q : View) (x u v : ℕ) (z : ℤ) (w k : ℕ) (steady : Steady q) (com
       empty : term (turn q.count u k) ≡ pos 0
       empty = rw (at, eq-eqb w w refl, and-false)
 
-      other_place : (j : ℕ) → j < q.count → j ≢ k → term (turn q.count u j) ≡ fromOther q u v (turn q.count u j)
-      other_place j hj d = rw (ne_eqb w (turn q.count u j) (λ e. d (turn-once q.count u hu j k hj hk (sym e ∙ sym at))), and-true)
+      other_place : (j : ℕ) → j < q.count → j ≢ k → term (turn q.count u j) ≡ from_other q u v (turn q.count u j)
+      other_place j hj d = rw (ne_eqb w (turn q.count u j) (λ e. d (turn_once q.count u hu j k hj hk (sym e ∙ sym at))), and-true)
 
-      low : fold sum (λ j. term (turn q.count u j)) k ≡ fold sum (λ j. fromOther q u v (turn q.count u j)) k
-      low = same sum (λ j. term (turn q.count u j)) (λ j. fromOther q u v (turn q.count u j)) k (λ j l. other_place j (omega arith) (omega arith))
+      low : fold sum (λ j. term (turn q.count u j)) k ≡ fold sum (λ j. from_other q u v (turn q.count u j)) k
+      low = same sum (λ j. term (turn q.count u j)) (λ j. from_other q u v (turn q.count u j)) k (λ j l. other_place j (omega arith) (omega arith))
 
-      high : fold sum (λ i. term (turn q.count u (q.count - suc i))) (q.count - suc k) ≡ fold sum (λ i. fromAway q x u (turn q.count u (q.count - suc i))) (q.count - suc k)
+      high : fold sum (λ i. term (turn q.count u (q.count - suc i))) (q.count - suc k) ≡ fold sum (λ i. from_away q x u (turn q.count u (q.count - suc i))) (q.count - suc k)
       high =
-          same sum (λ i. term (turn q.count u (q.count - suc i))) (λ i. fromAway q x u (turn q.count u (q.count - suc i))) (q.count - suc k)
+          same sum (λ i. term (turn q.count u (q.count - suc i))) (λ i. from_away q x u (turn q.count u (q.count - suc i))) (q.count - suc k)
           (λ i l. other_place (q.count - suc i) (omega arith) (omega arith)
-          ∙ ap (λ b. pick sum b (known q (turn q.count u (q.count - suc i)) u)) (sym (away-is q x u v z come (turn q.count u (q.count - suc i)) (turn_inside q.count u hu (q.count - suc i) (omega arith)))))
+          ∙ ap (λ b. pick sum b (known q (turn q.count u (q.count - suc i)) u)) (sym (away_is q x u v z come (turn q.count u (q.count - suc i)) (turn_inside q.count u hu (q.count - suc i) (omega arith)))))
 
   pub split : carried sum q u v z w ≡ before q u v z k +ℤ later q x u (q.count - suc k)
   split =
-      total-is sum q steady.grown (λ c. +ℤ_idr (q.value c)) has u w hu
+      total_is sum q steady.grown (λ c. +ℤ_idr (q.value c)) has u w hu
       ∙ ap (λ y. q.value u +ℤ y) (gathered ∙ ap (λ y. z +ℤ y) parted)
-      ∙ gather (q.value u) z (fold sum (λ j. fromOther q u v (turn q.count u j)) k) (later q x u (q.count - suc k))
-      ∙ ap (λ y. y +ℤ later q x u (q.count - suc k)) (sym (before-is q u v z k))
+      ∙ gather (q.value u) z (fold sum (λ j. from_other q u v (turn q.count u j)) k) (later q x u (q.count - suc k))
+      ∙ ap (λ y. y +ℤ later q x u (q.count - suc k)) (sym (before_is q u v z k))
     where
       gather : (a b c d : ℤ) → a +ℤ (b +ℤ (c +ℤ d)) ≡ ((a +ℤ b) +ℤ c) +ℤ d
       gather a b c d = sym (+ℤ_assoc (a +ℤ b) c d ∙ +ℤ_assoc a b (c +ℤ d))

@@ -16,138 +16,138 @@ use Rattle.tree.specs.Turns.{turn}
 use Rattle.tree.proofs.Turns.{turn_inside}
 use Rattle.messages.specs.declared.Message.TheVariants.{Probe, Response}
 use Rattle.mechanism.specs.Views.{View}
-use Rattle.mechanism.specs.Combining.{Said, said, asked, heard, stepIf, sofar, ask}
-use Rattle.trace.specs.inner.Traces.{Trace, pushed, pushedAll}
-use Rattle.walk.specs.inner.Links.{Found, neighbourAt, Placed}
+use Rattle.mechanism.specs.Combining.{Said, said, asked, heard, step_if, sofar, ask}
+use Rattle.trace.specs.inner.Traces.{Trace, pushed, pushed_all}
+use Rattle.walk.specs.inner.Links.{Found, neighbour_at, Placed}
 use Rattle.walk.specs.inner.Asking.{Asking, Visiting, Replied, Visited}
-use Rattle.walk.proofs.Finding.{found-same}
-use Rattle.walk.proofs.Pushing.{pushedAll-none, pushedAll-append, pushedAll-asked}
+use Rattle.walk.proofs.Finding.{found_same}
+use Rattle.walk.proofs.Pushing.{pushed_all-none, pushed_all-append, pushed_all-asked}
 
 -- ---- a step by its ways; l is what `reads::lease` returned
 
 -- what u, come from v, adds to acc for w
 abbrev step : View → (ℕ → ℕ → Said) → ℕ → ℕ → ℕ → Said → Said
-step q next u v w acc = stepIf sum q (other q.parents u v w) next u w acc
+step q next u v w acc = step_if sum q (other q.parents u v w) next u w acc
 
 module _ (q : View) (next : ℕ → ℕ → Said) (u v w : ℕ) (acc : Said) where
   -- the neighbour that u is come from, and a candidate that is no neighbour, change nothing
   step_back : w ≡ v → step q next u v w acc ≡ acc
-  unfolding stepIf
+  unfolding step_if
   step_back e = rw (eq-eqb v w (sym e), and-false)
 
-  step-far : adjacent q.parents w u ≡ false → step q next u v w acc ≡ acc
-  unfolding stepIf
-  step-far e = rw e
+  step_far : adjacent q.parents w u ≡ false → step q next u v w acc ≡ acc
+  unfolding step_if
+  step_far e = rw e
 
   module _ (beside : adjacent q.parents w u ≡ true) (d : w ≢ v) {l : ℕ} (leased : l ≡ q.lease w u) where
     step_kept : l ≢ 0 → step q next u v w acc ≡ said (acc.sum +ℤ q.cache w u) (acc.log ++ [])
-    unfolding stepIf heard
+    unfolding step_if heard
     step_kept some = rw (beside, ne_eqb v w (λ e. d (sym e)), ← leased, ne_eqb l 0 some)
 
-    step-asked : l ≡ 0 → step q next u v w acc ≡ said (acc.sum +ℤ (next w u).sum) (acc.log ++ (asked sum q u w (next w u)).log)
-    unfolding stepIf heard
-    step-asked none = rw (beside, ne_eqb v w (λ e. d (sym e)), ← leased, eq-eqb l 0 none)
+    step_asked : l ≡ 0 → step q next u v w acc ≡ said (acc.sum +ℤ (next w u).sum) (acc.log ++ (asked sum q u w (next w u)).log)
+    unfolding step_if heard
+    step_asked none = rw (beside, ne_eqb v w (λ e. d (sym e)), ← leased, eq-eqb l 0 none)
 
 -- ---- the three ways through `visit`: what each leaves, and that its sum fits; y is what is added to the sum
 
 module _ {q : View} {f u v w : ℕ} {z : ℤ} where
-  pub visited-back : w ≡ v → {t : Trace} → Visited q f u v w z t z t
-  visited-back e {t} = record { sums = rw (step_back q (ask sum q f) u v w (said z []) e); logs = rw (step_back q (ask sum q f) u v w (said z []) e, pushedAll-none t) }
+  pub visited_back : w ≡ v → {t : Trace} → Visited q f u v w z t z t
+  visited_back e {t} = record { sums = rw (step_back q (ask sum q f) u v w (said z []) e); logs = rw (step_back q (ask sum q f) u v w (said z []) e, pushed_all-none t) }
 
   module _ {first next : List ℕ} (h : Visiting q first next f u v w z) (d : w ≢ v) {l : ℕ} (leased : l ≡ q.lease w u) where
     module _ (some : l ≢ 0) {y : ℤ} (k : y ≡ q.cache w u) where
       kept : step q (ask sum q f) u v w (said z []) ≡ said (z +ℤ q.cache w u) []
       kept = step_kept q (ask sum q f) u v w (said z []) h.beside d leased some
 
-      pub kept-fits : SFits w64 (z +ℤ y)
-      kept-fits = rw k (rw kept at h.fits)
+      pub kept_fits : SFits w64 (z +ℤ y)
+      kept_fits = rw k (rw kept at h.fits)
 
-      pub visited-kept : {z' : ℤ} {t : Trace} → z' ≡ z +ℤ y → Visited q f u v w z t z' t
-      visited-kept {t = t} e = record { sums = rw (kept, ← k) e; logs = rw (kept, pushedAll-none t) }
+      pub visited_kept : {z' : ℤ} {t : Trace} → z' ≡ z +ℤ y → Visited q f u v w z t z' t
+      visited_kept {t = t} e = record { sums = rw (kept, ← k) e; logs = rw (kept, pushed_all-none t) }
 
     module _ (none : l ≡ 0) {y : ℤ} {t₁ t₂ : Trace} (told : Replied q f w u t₁ y t₂) where
       answered : step q (ask sum q f) u v w (said z []) ≡ said (z +ℤ (ask sum q f w u).sum) (asked sum q u w (ask sum q f w u)).log
-      answered = step-asked q (ask sum q f) u v w (said z []) h.beside d leased none
+      answered = step_asked q (ask sum q f) u v w (said z []) h.beside d leased none
 
-      pub asked-fits : SFits w64 (z +ℤ y)
-      asked-fits = rw told.sums (rw answered at h.fits)
+      pub asked_fits : SFits w64 (z +ℤ y)
+      asked_fits = rw told.sums (rw answered at h.fits)
 
-      pub visited-asked : {z' : ℤ} {t t₃ : Trace} → t₁ ≡ pushed (Probe u w) t → t₃ ≡ pushed (Response w u y) t₂ → z' ≡ z +ℤ y → Visited q f u v w z t z' t₃
-      visited-asked {t = t} p r e =
-          record { sums = rw (answered, ← told.sums) e; logs = rw (answered, ← told.sums) (pushedAll-asked (Probe u w) (Response w u y) (ask sum q f w u).log t p told.logs r) }
+      pub visited_asked : {z' : ℤ} {t t₃ : Trace} → t₁ ≡ pushed (Probe u w) t → t₃ ≡ pushed (Response w u y) t₂ → z' ≡ z +ℤ y → Visited q f u v w z t z' t₃
+      visited_asked {t = t} p r e =
+          record { sums = rw (answered, ← told.sums) e; logs = rw (answered, ← told.sums) (pushed_all-asked (Probe u w) (Response w u y) (ask sum q f w u).log t p told.logs r) }
 
 -- ---- the turns of `ask`
 
 -- what u, come from v, said of its first k candidates: its sum, and its messages after those of t
 pub record Partly (q : View) (f u v k : ℕ) (t : Trace) (z : ℤ) (t' : Trace) : Type 0 where
   pub sums : z ≡ (sofar sum q (ask sum q f) u v k).sum
-  pub logs : t' ≡ pushedAll (sofar sum q (ask sum q f) u v k).log t
+  pub logs : t' ≡ pushed_all (sofar sum q (ask sum q f) u v k).log t
 
 -- the same where k is the place of a neighbour, or the last candidate is taken
 pub record Standing (q : View) (f u v k : ℕ) (t : Trace) (z : ℤ) (t' : Trace) : Type 0 where
   pub upto : k ≤ q.count
-  pub beside : k < q.count → neighbourAt q.count q.parents u k ≡ true
+  pub beside : k < q.count → neighbour_at q.count q.parents u k ≡ true
   pub partly : Partly q f u v k t z t'
 
-sofar-next : (q : View) (next : ℕ → ℕ → Said) (u v k : ℕ) → sofar sum q next u v (k + 1) ≡ step q next u v (turn q.count u k) (sofar sum q next u v k)
+sofar_next : (q : View) (next : ℕ → ℕ → Said) (u v k : ℕ) → sofar sum q next u v (k + 1) ≡ step q next u v (turn q.count u k) (sofar sum q next u v k)
 unfolding sofar
-sofar-next q next u v k = rw add-one
+sofar_next q next u v k = rw add-one
 
 -- candidates that are no neighbours change nothing, so a walk may go from neighbour to neighbour
-sofar-far : (q : View) (next : ℕ → ℕ → Said) (u v k : ℕ) → neighbourAt q.count q.parents u k ≡ false → sofar sum q next u v (k + 1) ≡ sofar sum q next u v k
-unfolding neighbourAt
-sofar-far q next u v k e = sofar-next q next u v k ∙ step-far q next u v (turn q.count u k) (sofar sum q next u v k) e
+sofar_far : (q : View) (next : ℕ → ℕ → Said) (u v k : ℕ) → neighbour_at q.count q.parents u k ≡ false → sofar sum q next u v (k + 1) ≡ sofar sum q next u v k
+unfolding neighbour_at
+sofar_far q next u v k e = sofar_next q next u v k ∙ step_far q next u v (turn q.count u k) (sofar sum q next u v k) e
 
 -- a step's messages stand after those before it, and depend on the sum alone
-stepIf-split : (q : View) (b : Bool) (next : ℕ → ℕ → Said) (u w : ℕ) (acc : Said)
-    → stepIf sum q b next u w acc ≡ said (stepIf sum q b next u w (said acc.sum [])).sum (acc.log ++ (stepIf sum q b next u w (said acc.sum [])).log)
-unfolding stepIf
-stepIf-split q true next u w acc = refl
-stepIf-split q false next u w acc = rw append-nil
+step_if-split : (q : View) (b : Bool) (next : ℕ → ℕ → Said) (u w : ℕ) (acc : Said)
+    → step_if sum q b next u w acc ≡ said (step_if sum q b next u w (said acc.sum [])).sum (acc.log ++ (step_if sum q b next u w (said acc.sum [])).log)
+unfolding step_if
+step_if-split q true next u w acc = refl
+step_if-split q false next u w acc = rw append-nil
 
-step-split : (q : View) (next : ℕ → ℕ → Said) (u v w : ℕ) (acc : Said)
+step_split : (q : View) (next : ℕ → ℕ → Said) (u v w : ℕ) (acc : Said)
     → step q next u v w acc ≡ said (step q next u v w (said acc.sum [])).sum (acc.log ++ (step q next u v w (said acc.sum [])).log)
-step-split q next u v w acc = stepIf-split q (other q.parents u v w) next u w acc
+step_split q next u v w acc = step_if-split q (other q.parents u v w) next u w acc
 
-ask-some : (q : View) (f u v : ℕ) → f ≢ 0 → ask sum q f u v ≡ sofar sum q (ask sum q (f - 1)) u v q.count
+ask_some : (q : View) (f u v : ℕ) → f ≢ 0 → ask sum q f u v ≡ sofar sum q (ask sum q (f - 1)) u v q.count
 unfolding ask
-ask-some q zero u v d = absurd (d refl)
-ask-some q (suc f) u v d = rw sub-one
+ask_some q zero u v d = absurd (d refl)
+ask_some q (suc f) u v d = rw sub-one
 
 module _ {q : View} {f u v : ℕ} {z : ℤ} {t : Trace} where
   pub partly_none : z ≡ q.value u → Partly q f u v 0 t z t
-  unfolding sofar pushedAll
+  unfolding sofar pushed_all
   partly_none e = record { sums = e; logs = refl }
 
-  pub partly-next : {k w : ℕ} {z' : ℤ} {t₁ t₂ : Trace} → w ≡ turn q.count u k → Partly q f u v k t z t₁ → Visited q f u v w z t₁ z' t₂ → Partly q f u v (k + 1) t z' t₂
-  partly-next e a b =
+  pub partly_next : {k w : ℕ} {z' : ℤ} {t₁ t₂ : Trace} → w ≡ turn q.count u k → Partly q f u v k t z t₁ → Visited q f u v w z t₁ z' t₂ → Partly q f u v (k + 1) t z' t₂
+  partly_next e a b =
       record {
-        sums = rw (sofar-next, step-split, ← e, ← a.sums) b.sums;
-        logs = rw (sofar-next, step-split, pushedAll-append, ← e, ← a.sums, ← a.logs) b.logs;
+        sums = rw (sofar_next, step_split, ← e, ← a.sums) b.sums;
+        logs = rw (sofar_next, step_split, pushed_all-append, ← e, ← a.sums, ← a.logs) b.logs;
       }
 
-  pub stand : {k r : ℕ} {t' : Trace} → Found q.count (neighbourAt q.count q.parents u) k r → Partly q f u v k t z t' → Standing q f u v r t z t'
+  pub stand : {k r : ℕ} {t' : Trace} → Found q.count (neighbour_at q.count q.parents u) k r → Partly q f u v k t z t' → Standing q f u v r t z t'
   stand h a =
-      let e = sym (found-same (sofar sum q (ask sum q f) u v) (sofar-far q (ask sum q f) u v) h) in
+      let e = sym (found_same (sofar sum q (ask sum q f) u v) (sofar_far q (ask sum q f) u v) h) in
       record { upto = h.upto; beside = h.found; partly = record { sums = rw e at a.sums; logs = rw e at a.logs } }
 
   pub told_none : f ≡ 0 → z ≡ q.value u → Replied q f u v t z t
-  unfolding ask pushedAll
+  unfolding ask pushed_all
   told_none e h = record { sums = rw e h; logs = rw e }
 
-  pub told-all : {k : ℕ} {t' : Trace} → f ≢ 0 → q.count ≤ k → Standing q (f - 1) u v k t z t' → Replied q f u v t z t'
-  told-all {k} d l h =
+  pub told_all : {k : ℕ} {t' : Trace} → f ≢ 0 → q.count ≤ k → Standing q (f - 1) u v k t z t' → Replied q f u v t z t'
+  told_all {k} d l h =
       let e : k ≡ q.count = omega (arith, h.upto) in
-      record { sums = rw (ask-some q f u v d) (rw e at h.partly.sums); logs = rw (ask-some q f u v d) (rw e at h.partly.logs) }
+      record { sums = rw (ask_some q f u v d) (rw e at h.partly.sums); logs = rw (ask_some q f u v d) (rw e at h.partly.logs) }
 
   pub visiting : {first next : List ℕ} {k w : ℕ} {t' : Trace} → Asking q first next u v → k < q.count → w ≡ turn q.count u k → Standing q f u v k t z t' → Visiting q first next f u v w z
-  unfolding neighbourAt
+  unfolding neighbour_at
   visiting {k = k} p h e a =
       record {
         asking = p;
         there = rw e (turn_inside q.count u p.inside k h);
         beside = rw e (a.beside h);
-        fits = rw (a.partly.sums, e) (rw (sofar-next, step-split) at (p.fit.fit f u v (k + 1) p.inside p.come (omega arith)));
+        fits = rw (a.partly.sums, e) (rw (sofar_next, step_split) at (p.fit.fit f u v (k + 1) p.inside p.come (omega arith)));
       }
 
   pub placed : {first next : List ℕ} {k : ℕ} {t' : Trace} → Asking q first next u v → k < q.count → Standing q f u v k t z t' → Placed q.count q.parents first next u k

@@ -8,7 +8,7 @@ use native.Mathlib.Omega.{arith}
 use borrow.Author.Tests.{ne_eqb}
 use Rattle.tree.specs.Parents.{parent, Grown}
 use Rattle.tree.specs.Sides.{below}
-use Rattle.tree.proofs.Below.{below_self, below_step, below-lt}
+use Rattle.tree.proofs.Below.{below_self, below_step, below_lt}
 
 -- of the nodes before i, x is below those that `at` is below
 pub record Ahead (ps : List ℕ) (x at i : ℕ) : Type 0 where
@@ -20,18 +20,18 @@ ahead_none h = record { short = h; same = λ j l. refl }
 
 -- the turn of w
 module _ {ps : List ℕ} {n x at w : ℕ} (grown : Grown ps n) (inside : w < n) (a : Ahead ps x at (suc w)) where
-  pub on-way : w ≡ at → below ps w x ≡ true
-  on-way e = a.same w (omega arith) ∙ ap (below ps w) (sym e) ∙ below_self ps w
+  pub on_way : w ≡ at → below ps w x ≡ true
+  on_way e = a.same w (omega arith) ∙ ap (below ps w) (sym e) ∙ below_self ps w
 
-  pub off-way : w ≢ at → below ps w x ≡ false
-  off-way d = a.same w (omega arith) ∙ below-lt ps n grown w at (omega (arith, a.short)) (omega (arith, a.short, d))
+  pub off_way : w ≢ at → below ps w x ≡ false
+  off_way d = a.same w (omega arith) ∙ below_lt ps n grown w at (omega (arith, a.short)) (omega (arith, a.short, d))
 
-  pub ahead-on : 0 < w → w ≡ at → Ahead ps x (parent ps w) w
-  ahead-on some e =
+  pub ahead_on : 0 < w → w ≡ at → Ahead ps x (parent ps w) w
+  ahead_on some e =
       record {
         short = grown w some inside;
         same = λ j l. a.same j (omega arith) ∙ ap (below ps j) (sym e) ∙ below_step ps n grown j w some inside ∙ rw (ne_eqb w j (omega arith));
       }
 
-  pub ahead-off : w ≢ at → Ahead ps x at w
-  ahead-off d = record { short = omega (arith, a.short, d); same = λ j l. a.same j (omega arith) }
+  pub ahead_off : w ≢ at → Ahead ps x at w
+  ahead_off d = record { short = omega (arith, a.short, d); same = λ j l. a.same j (omega arith) }

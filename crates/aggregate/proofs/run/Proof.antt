@@ -2,7 +2,7 @@
 use mathlib.Core.Path.{sym, ◌∙◌}
 use borrow.Author.Rules.{rules}
 use borrow.Author.Tests.{not-true, not-false}
-use Rattle.aggregate.proofs.Wholly.{ends-unread, ends-few-places, ends-unsound, starting}
+use Rattle.aggregate.proofs.Wholly.{ends_unread, ends_few_places, ends_unsound, starting}
 use Rattle.aggregate.proofs.run.Statement.{statement}
 use Rattle.aggregate.proofs.run.Tie as tie
 
@@ -16,7 +16,7 @@ returns : tie.Need-returns
 returns c =
     let j = c.before.before.before in
     let s = j.before.before.before in
-    let e = ends-unread s.args.session s.args.list.now s.args.answers.now s.args.log.now s.args.place j.judge.result j.judge.ensures c.before.if1.true in
+    let e = ends_unread s.args.session s.args.list.now s.args.answers.now s.args.log.now s.args.place j.judge.result j.judge.ensures c.before.if1.true in
     (c.refused.ensures ∙ e.0, e.1, e.2)
 
 refused-requires-2 : tie.Need-refused-requires-2
@@ -27,7 +27,7 @@ returns-2 c =
     let p = c.before.before.before in
     let j = p.before.before in
     let s = j.before.before.before in
-    let e = ends-few-places s.args.session s.args.list.now s.args.answers.now s.args.log.now s.args.place j.judge.result j.judge.ensures p.if1.false c.before.if2.true in
+    let e = ends_few_places s.args.session s.args.list.now s.args.answers.now s.args.log.now s.args.place j.judge.result j.judge.ensures p.if1.false c.before.if2.true in
     (c.refused2.ensures ∙ e.0, e.1, e.2)
 
 is-sound-requires : tie.Need-is-sound-requires
@@ -42,7 +42,7 @@ returns-3 c =
     let p = i.before.before.before in
     let j = p.before.before in
     let s = j.before.before.before in
-    let e = ends-unsound s.args.session s.args.list.now s.args.answers.now s.args.log.now s.args.place j.judge.result j.judge.ensures p.if1.false i.before.if2.false (sym i.is-sound.ensures ∙ not-true _ c.before.if3.true) in
+    let e = ends_unsound s.args.session s.args.list.now s.args.answers.now s.args.log.now s.args.place j.judge.result j.judge.ensures p.if1.false i.before.if2.false (sym i.is-sound.ensures ∙ not-true _ c.before.if3.true) in
     (c.refused3.ensures ∙ e.0, e.1, e.2)
 
 whole-requires : tie.Need-whole-requires

@@ -9,8 +9,8 @@ use Rattle.session.specs.declared.Session.{Session}
 use Rattle.mechanism.specs.Views.{View}
 use Rattle.mechanism.specs.Combining.{Said, said, combine}
 use Rattle.mechanism.specs.Spreading.{write}
-use Rattle.mechanism.specs.Applying.{upRaised, downRaised}
-use Rattle.trace.specs.inner.Traces.{Trace, pushedAll}
+use Rattle.mechanism.specs.Applying.{up_raised, down_raised}
+use Rattle.trace.specs.inner.Traces.{Trace, pushed_all}
 use Rattle.walk.specs.inner.Asking.{SumsFit}
 use Rattle.walk.specs.inner.Links.{Linked}
 use Rattle.walk.specs.inner.Telling.{Steady}
@@ -20,13 +20,13 @@ use Rattle.aggregate.specs.declared.act.Act.{Act}
 use Rattle.aggregate.specs.declared.act.Act.TheVariants.{Combine, Write}
 
 -- the request of an act at x
-abbrev pub requestOf : ℕ → Act → Request
-requestOf x Combine = request.Combine x
-requestOf x (Write z) = request.Write x z
+abbrev pub request_of : ℕ → Act → Request
+request_of x Combine = request.Combine x
+request_of x (Write z) = request.Write x z
 
 -- an outcome, and the session whose parts were left with it
-abbrev pub servedAs : Outcome → Session → Served
-servedAs o s = record { outcome = o; session = s }
+abbrev pub served_as : Outcome → Session → Served
+served_as o s = record { outcome = o; session = s }
 
 -- a sound session, with the links of its tree
 pub record Servable (s : Session) (first next : List ℕ) : Type 0 where
@@ -37,8 +37,8 @@ pub record Servable (s : Session) (first next : List ℕ) : Type 0 where
 -- ---- the steps of an act
 
 -- the refusal of a request to a sound session before its walk: 7, then 8
-unfoldable pub earlyRefusal : ℕ → ℕ → ℕ → ℕ
-earlyRefusal count accepted x = cond (ltb x count) (cond (ltb accepted limit) 0 8) 7
+unfoldable pub early_refusal : ℕ → ℕ → ℕ → ℕ
+early_refusal count accepted x = cond (ltb x count) (cond (ltb accepted limit) 0 8) 7
 
 -- the values before the walk of an act: a write sets its value
 abbrev pub begun : Act → ℕ → List ℤ → List ℤ
@@ -61,13 +61,13 @@ pub record Walkable (q : View) (first next : List ℕ) (x : ℕ) : Type 0 where
 pub record Walked (a : Act) (q : View) (x : ℕ) (z : ℤ) (t t' : Trace) : Type 0 where
   pub room : length t.numbers ≡ 510
   pub sums : z ≡ (walked a q x).sum
-  pub logs : t' ≡ pushedAll (walked a q x).log t
+  pub logs : t' ≡ pushed_all (walked a q x).log t
 
 -- the lease numbers after an act, of each direction: a combine raises those of every pair that points to x
-abbrev pub upSettled : Act → List ℕ → ℕ → ℕ → List ℕ → List ℕ
-upSettled Combine ps n x l = upRaised ps n 2 x l
-upSettled (Write z) ps n x l = l
+abbrev pub up_settled : Act → List ℕ → ℕ → ℕ → List ℕ → List ℕ
+up_settled Combine ps n x l = up_raised ps n 2 x l
+up_settled (Write z) ps n x l = l
 
-abbrev pub downSettled : Act → List ℕ → ℕ → ℕ → List ℕ → List ℕ
-downSettled Combine ps n x l = downRaised ps n 2 x l
-downSettled (Write z) ps n x l = l
+abbrev pub down_settled : Act → List ℕ → ℕ → ℕ → List ℕ → List ℕ
+down_settled Combine ps n x l = down_raised ps n 2 x l
+down_settled (Write z) ps n x l = l

@@ -2,7 +2,7 @@
 use mathlib.Core.Path.{sym, ◌∙◌}
 use borrow.Author.Rules.{rules}
 use Rattle.fields.specs.Usable.{put_at}
-use Rattle.fields.proofs.Rooms.{taken-exactly}
+use Rattle.fields.proofs.Rooms.{taken_exactly}
 use Rattle.fields.proofs.put.Statement.{statement}
 use Rattle.fields.proofs.put.Tie as tie
 
@@ -10,7 +10,7 @@ takes-requires : tie.Need-takes-requires
 takes-requires c κs = search rules
 
 write-requires : tie.Need-write-requires
-write-requires c κs = ((taken-exactly _ _ _ _).0 (sym c.before.before.takes.ensures ∙ c.before.if1.true)).1
+write-requires c κs = ((taken_exactly _ _ _ _).0 (sym c.before.before.takes.ensures ∙ c.before.if1.true)).1
 
 same_length : tie.Need-same-length
 same_length c = search rules

@@ -2,8 +2,8 @@
 use mathlib.Core.Path.{refl, ◌∙◌}
 use native.Mathlib.Omega.{arith}
 use borrow.Author.Rules.{rules}
-use Rattle.messages.proofs.Coding.{is-probe, is-response, is-update, is-release}
-use Rattle.messages.proofs.Parts.{handed-on}
+use Rattle.messages.proofs.Coding.{is_probe, is_response, is_update, is_release}
+use Rattle.messages.proofs.Parts.{handed_on}
 use Rattle.messages.proofs.decode.Statement.{statement}
 use Rattle.messages.proofs.decode.Tie as tie
 
@@ -17,16 +17,16 @@ signed-requires : tie.Need-signed-requires
 signed-requires c κs = omega arith
 
 returns : tie.Need-returns
-returns c = is-probe _ _ _ refl refl c.if1.true
+returns c = is_probe _ _ _ refl refl c.if1.true
 
 returns-2 : tie.Need-returns-2
-returns-2 c = is-response _ _ _ refl refl _ (handed-on _ c.before.before.signed.type-inv ∙ c.before.before.signed.ensures) c.if2.true
+returns-2 c = is_response _ _ _ refl refl _ (handed_on _ c.before.before.signed.type-inv ∙ c.before.before.signed.ensures) c.if2.true
 
 returns-3 : tie.Need-returns-3
-returns-3 c = is-update _ _ _ refl refl _ (handed-on _ c.before.before.before.signed.type-inv ∙ c.before.before.before.signed.ensures) c.if3.true
+returns-3 c = is_update _ _ _ refl refl _ (handed_on _ c.before.before.before.signed.type-inv ∙ c.before.before.before.signed.ensures) c.if3.true
 
 returns-4 : tie.Need-returns-4
-returns-4 c = is-release _ _ _ refl refl c.before.before.if1.false c.before.if2.false c.if3.false
+returns-4 c = is_release _ _ _ refl refl c.before.before.if1.false c.before.if2.false c.if3.false
 
 pub decode-spec : {M : Type 1} → statement M
 decode-spec =

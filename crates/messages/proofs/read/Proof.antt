@@ -4,8 +4,8 @@ use native.Mathlib.Omega.{arith}
 use borrow.Author.Rules.{rules}
 use Rattle.fields.specs.Fields.{field}
 use Rattle.messages.specs.Records.{width_of}
-use Rattle.messages.proofs.Widths.{width-bounds}
-use Rattle.messages.proofs.Entries.{entry_past, entry-end, entry-short, entry_read}
+use Rattle.messages.proofs.Widths.{width_bounds}
+use Rattle.messages.proofs.Entries.{entry_past, entry_end, entry_short, entry_read}
 use Rattle.messages.proofs.read.Statement.{statement}
 use Rattle.messages.proofs.read.Tie as tie
 
@@ -16,17 +16,17 @@ returns : tie.Need-returns
 returns c = sym (entry_past _ _ _ (omega arith))
 
 returns-2 : tie.Need-returns-2
-returns-2 c = sym (entry-end _ _ _ (omega arith) (omega arith))
+returns-2 c = sym (entry_end _ _ _ (omega arith) (omega arith))
 
 returns-3 : tie.Need-returns-3
 returns-3 c =
     let s = c.before.before.before.before.before.args in
-    sym (entry-short _ _ _ c.before.if2.false (omega (arith, width-bounds (field s.log.now s.place 2))))
+    sym (entry_short _ _ _ c.before.if2.false (omega (arith, width_bounds (field s.log.now s.place 2))))
 
 returns-4 : tie.Need-returns-4
 returns-4 c =
     let s = c.before.before.before.before.before.before.args in
-    sym (entry-short _ _ _ c.before.before.if2.false (omega (arith, width-bounds (field s.log.now s.place 2))))
+    sym (entry_short _ _ _ c.before.before.if2.false (omega (arith, width_bounds (field s.log.now s.place 2))))
 
 part-requires : tie.Need-part-requires
 part-requires c κs = search rules
@@ -38,7 +38,7 @@ returns-5 : tie.Need-returns-5
 returns-5 c =
     let s = c.before.before.before.before.before.before.before.before.before.args in
     let e : c.before.width_of_lem.result ≡ width_of (field s.log.now s.place 2) = c.before.width_of_lem.ensures ∙ ap width_of c.before.before.part.ensures in
-    sym (entry-short _ _ _ c.before.before.before.before.before.if2.false (omega arith))
+    sym (entry_short _ _ _ c.before.before.before.before.before.if2.false (omega arith))
 
 message-requires : tie.Need-message-requires
 message-requires c κs = search rules

@@ -8,9 +8,9 @@ use lib.Dec.{leb}
 use lib.ListN.{length}
 use borrow.Author.Rules.{rules}
 use borrow.Author.Tests.{leb-true, leb-false}
-use Rattle.fields.specs.Usable.{usableBits}
+use Rattle.fields.specs.Usable.{usable_bits}
 use Rattle.messages.specs.Records.{bits_of}
-use Rattle.messages.proofs.Answers.{answer-next, answer-misfit, answer-full, log-put, refused-log-kept}
+use Rattle.messages.proofs.Answers.{answer_next, answer_misfit, answer_full, log_put, refused_log_kept}
 use Rattle.messages.proofs.write.Statement.{statement}
 use Rattle.messages.proofs.write.Tie as tie
 
@@ -20,7 +20,7 @@ module _ (c : tie.After-lies) where
   end = c.before.before.before.args.place + bits_of c.before.before.before.args.message
 
   abbrev usable : ℕ
-  usable = usableBits (length c.before.before.before.args.log.now)
+  usable = usable_bits (length c.before.before.before.args.log.now)
 
   tested : c.lies.result ≡ leb end usable
   tested = rw c.before.width.ensures at c.lies.ensures
@@ -61,19 +61,19 @@ returns c =
     let f = sym c.before.before.before.before.before.before.holds.ensures ∙ c.before.before.before.before.before.if2.true in
     let w = l.before.width.ensures in
     let n = c.before.before.before.number.ensures in
-    (rw w (sym (answer-next _ _ _ h f)), c.before.before.put.ensures.1 ∙ rw (w, n.0) (log-put _ _ _ h f (rw n.0 at n.1)))
+    (rw w (sym (answer_next _ _ _ h f)), c.before.before.put.ensures.1 ∙ rw (w, n.0) (log_put _ _ _ h f (rw n.0 at n.1)))
 
 returns-2 : tie.Need-returns-2
 returns-2 c =
     let l = c.before.before.before in
     let h = has_room l c.before.before.if1.true in
     let f = sym c.before.holds.ensures ∙ c.if2.false in
-    (sym (answer-misfit _ _ _ h f), sym (refused-log-kept _ _ _ (inr f)))
+    (sym (answer_misfit _ _ _ h f), sym (refused_log_kept _ _ _ (inr f)))
 
 returns-3 : tie.Need-returns-3
 returns-3 c =
     let h = no_room c.before c.if1.false in
-    (sym (answer-full _ _ _ h), sym (refused-log-kept _ _ _ (inl h)))
+    (sym (answer_full _ _ _ h), sym (refused_log_kept _ _ _ (inl h)))
 
 pub write_spec : {M : Type 1} → statement M
 write_spec =

@@ -2,7 +2,7 @@
 use mathlib.Core.Path.{sym, ◌∙◌}
 use native.Mathlib.Omega.{arith}
 use borrow.Author.Rules.{rules}
-use Rattle.packed.proofs.Filling.{ends-past, ends_more, ends_there, ends_as}
+use Rattle.packed.proofs.Filling.{ends_past, ends_more, ends_there, ends_as}
 use Rattle.packed.proofs.ends.Statement.{statement}
 use Rattle.packed.proofs.ends.Tie as tie
 
@@ -10,7 +10,7 @@ usable-bits-requires : tie.Need-usable-bits-requires
 usable-bits-requires c κs = search rules
 
 returns : tie.Need-returns
-returns c = sym (ends-past _ _ (omega arith))
+returns c = sym (ends_past _ _ (omega arith))
 
 add-whole : tie.Need-overflow-add-whole
 add-whole c = search rules

@@ -2,7 +2,7 @@
 use mathlib.Core.Path.{sym, ◌∙◌}
 use native.Mathlib.Omega.{arith}
 use borrow.Author.Rules.{rules}
-use Rattle.requests.proofs.Walk.{count_cut, count-many, counted}
+use Rattle.requests.proofs.Walk.{count_cut, count_many, counted}
 use Rattle.requests.proofs.judge.Statement.{statement}
 use Rattle.requests.proofs.judge.Tie as tie
 
@@ -25,7 +25,7 @@ refused-requires-2 : tie.Need-refused-requires-2
 refused-requires-2 c κs = search rules
 
 returns-2 : tie.Need-returns-2
-returns-2 c = c.refused2.ensures ∙ sym (count-many _ _ (sym c.before.before.before.before.before.get.ensures ∙ c.before.before.before.count.given.1) (omega arith))
+returns-2 c = c.refused2.ensures ∙ sym (count_many _ _ (sym c.before.before.before.before.before.get.ensures ∙ c.before.before.before.count.given.1) (omega arith))
 
 requests-requires : tie.Need-requests-requires
 requests-requires c κs = counted _ _ (sym c.before.before.before.before.get.ensures ∙ c.before.before.count.given.1) (omega arith)

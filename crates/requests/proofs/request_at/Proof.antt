@@ -9,7 +9,7 @@ use borrow.Author.Rules.{rules}
 use Rattle.fields.specs.Usable.{field_at}
 use Rattle.fields.specs.declared.Field.TheVariants.{Value}
 use Rattle.fields.proofs.Rooms.{found}
-use Rattle.requests.proofs.Steps.{found_at, no_kind, no_node, node-byte, combine-found, no_value, no-misfit, write-found}
+use Rattle.requests.proofs.Steps.{found_at, no_kind, no_node, node_byte, combine_found, no_value, no_misfit, write_found}
 use Rattle.requests.proofs.request_at.Statement.{statement}
 use Rattle.requests.proofs.request_at.Tie as tie
 
@@ -48,8 +48,8 @@ module _ (c : tie.After-known-told2) where
   abbrev place : ℕ
   place = c.before.before.before.before.before.before.before.before.before.args.place
 
-  kind-is : field_at list place 1 ≡ Value c.before.before.before.before.before.kind.given.0.0
-  kind-is = sym c.before.before.before.before.before.before.before.get.ensures ∙ c.before.before.before.before.before.kind.given.1
+  kind_is : field_at list place 1 ≡ Value c.before.before.before.before.before.kind.given.0.0
+  kind_is = sym c.before.before.before.before.before.before.before.get.ensures ∙ c.before.before.before.before.before.kind.given.1
 
   node-is : field_at list (place + 1) 8 ≡ Value c.before.node.given.0.0
   node-is = found_at _ (sym c.before.before.before.get2.ensures ∙ c.before.node.given.1) (omega arith) (omega arith)
@@ -59,7 +59,7 @@ module _ (c : tie.After-known-told2) where
   near = omega (arith, (found list (place + 1) 8 _ node-is).1)
 
   byte : c.before.node.given.0.0 < 256
-  byte = node-byte _ _ _ _ kind-is node-is
+  byte = node_byte _ _ _ _ kind_is node-is
 
 cast-t11 : tie.Need-overflow-cast-t11
 cast-t11 c = omega (arith, byte c.before)
@@ -68,7 +68,7 @@ add-t13 : tie.Need-overflow-add-t13
 add-t13 c = omega (arith, near c.before)
 
 returns-3 : tie.Need-returns-3
-returns-3 c = sym (combine-found _ _ _ _ (kind-is c.before) (node-is c.before) c.if1.true)
+returns-3 c = sym (combine_found _ _ _ _ (kind_is c.before) (node-is c.before) c.if1.true)
 
 add-get-2 : tie.Need-overflow-add-get-2
 add-get-2 c = omega (arith, near c.before)
@@ -83,7 +83,7 @@ enum-told-3 : tie.Need-enum-told-3
 enum-told-3 c = search rules
 
 returns-4 : tie.Need-returns-4
-returns-4 c = sym (no_value _ _ _ _ (kind-is c.before.before.before.before) (node-is c.before.before.before.before) c.before.before.before.if1.false (found_at _ (sym c.before.before.get3.ensures ∙ c.enum-told3.given.1) (omega arith) (omega arith)))
+returns-4 c = sym (no_value _ _ _ _ (kind_is c.before.before.before.before) (node-is c.before.before.before.before) c.before.before.before.if1.false (found_at _ (sym c.before.before.get3.ensures ∙ c.enum-told3.given.1) (omega arith) (omega arith)))
 
 -- the number behind them that was found
 number_is : (c : tie.After-known-told3) → field_at (list c.before.before.before.before.before) (place c.before.before.before.before.before + 9) 32 ≡ Value c.before.number.given.0.0
@@ -99,7 +99,7 @@ enum-told-4 : tie.Need-enum-told-4
 enum-told-4 c = search rules
 
 returns-5 : tie.Need-returns-5
-returns-5 c = absurd (no-misfit _ _ _ (number_is c.before.before.before) (sym c.before.before.decode32.ensures ∙ c.enum-told4.given.1))
+returns-5 c = absurd (no_misfit _ _ _ (number_is c.before.before.before) (sym c.before.before.decode32.ensures ∙ c.enum-told4.given.1))
 
 cast-t16 : tie.Need-overflow-cast-t16
 cast-t16 c = omega (arith, byte c.before.before.before.before.before.before.before.before.before)
@@ -110,7 +110,7 @@ add-t9 c = omega (arith, near c.before.before.before.before.before.before.before
 returns-6 : tie.Need-returns-6
 returns-6 c =
     rw (to_z-of_z {w = w32} (record { sfits = c.known-told4.given.0.1 }))
-    (sym (write-found _ _ _ _ (kind-is c.before.before.before.before.before.before.before.before.before) (node-is c.before.before.before.before.before.before.before.before.before) c.before.before.before.before.before.before.before.before.if1.false _ _ _ (number_is c.before.before.before.before) (sym c.before.before.before.decode32.ensures ∙ c.before.value.given.1) (omega arith)))
+    (sym (write_found _ _ _ _ (kind_is c.before.before.before.before.before.before.before.before.before) (node-is c.before.before.before.before.before.before.before.before.before) c.before.before.before.before.before.before.before.before.if1.false _ _ _ (number_is c.before.before.before.before) (sym c.before.before.before.decode32.ensures ∙ c.before.value.given.1) (omega arith)))
 
 pub request-at-spec : {M : Type 1} → statement M
 request-at-spec =

@@ -3,13 +3,13 @@ use mathlib.Core.Path.{◌≡◌, sym, ◌∙◌}
 use mathlib.Core.Bool.{true}
 use borrow.Author.Rules.{rules}
 use borrow.Author.Tests.{le-leb, lt-leb}
-use Rattle.tree.specs.Parents.{InRule, inRule}
-use Rattle.tree.proofs.InRule.{in-rule-exactly}
-use Rattle.tree.proofs.Sizes.{root_none, root-some}
-use Rattle.session.specs.Parts.{sessionBy}
+use Rattle.tree.specs.Parents.{InRule, in_rule}
+use Rattle.tree.proofs.InRule.{in_rule_exactly}
+use Rattle.tree.proofs.Sizes.{root_none, root_some}
+use Rattle.session.specs.Parts.{session_by}
 use Rattle.session.specs.Soundness.{limit, sound}
 use Rattle.session.specs.declared.Session.{Session}
-use Rattle.session.proofs.InPasses.{passes, together, sound-passes}
+use Rattle.session.proofs.InPasses.{passes, together, sound_passes}
 use Rattle.session.proofs.parts_are_sound.Statement.{statement}
 use Rattle.session.proofs.parts_are_sound.Tie as tie
 
@@ -21,21 +21,21 @@ module _ (f : tie.After-full3) where
   abbrev of : Session
   of =
       let a = start.args in
-      sessionBy a.count a.parents.now a.values.now a.up-lease.now a.up-cache.now a.up-messages.now a.down-lease.now a.down-cache.now a.down-messages.now a.accepted
+      session_by a.count a.parents.now a.values.now a.up-lease.now a.up-cache.now a.up_messages.now a.down-lease.now a.down-cache.now a.down_messages.now a.accepted
 
   told : sound 2 of ≡ passes of
-  told = sound-passes of f.before.before.full.ensures f.before.full2.ensures f.full3.ensures
+  told = sound_passes of f.before.before.full.ensures f.before.full2.ensures f.full3.ensures
 
 -- past the first test
 module _ (e : tie.Else1) where
   abbrev long : tie.After-full3
   long = e.before.before.before
 
-  rule-holds : inRule (of long).tree.parents (of long).tree.count ≡ true
-  rule-holds = root-some _ _ (λ z. e.if1.left (rw e.before.sizes.ensures z))
+  rule-holds : in_rule (of long).tree.parents (of long).tree.count ≡ true
+  rule-holds = root_some _ _ (λ z. e.if1.left (rw e.before.sizes.ensures z))
 
-  in-rule : InRule (of long).tree.parents (of long).tree.count
-  in-rule = (in-rule-exactly _ _).0 rule-holds
+  in_rule_lem : InRule (of long).tree.parents (of long).tree.count
+  in_rule_lem = (in_rule_exactly _ _).0 rule-holds
 
 full-requires : tie.Need-full-requires
 full-requires c κs = search rules
@@ -62,18 +62,18 @@ mul-twice : tie.Need-overflow-mul-twice
 mul-twice c = search rules
 
 pairs-requires : tie.Need-pairs-requires
-pairs-requires c κs = let r = in-rule c.before.before in (r.some, r.few)
+pairs-requires c κs = let r = in_rule_lem c.before.before in (r.some, r.few)
 
 pairs-requires-2 : tie.Need-pairs-requires-2
-pairs-requires-2 c κs = let r = in-rule c.before.before.before.before in (r.some, r.few)
+pairs-requires-2 c κs = let r = in_rule_lem c.before.before.before.before in (r.some, r.few)
 
 values-requires : tie.Need-values-requires
-values-requires c κs = (in-rule c.before.before.before.before.before).few
+values-requires c κs = (in_rule_lem c.before.before.before.before.before).few
 
 ordered-requires : tie.Need-ordered-requires
 ordered-requires c κs =
     let e = c.before.before.before.before.before.before in
-    ((in-rule e).few, (long e).before.before.full.ensures)
+    ((in_rule_lem e).few, (long e).before.before.full.ensures)
 
 returns-3 : tie.Need-returns-3
 returns-3 c =

@@ -1,6 +1,6 @@
 -- `read` meets its contract: the count decides, or the nodes behind it.
 use mathlib.Core.Path.{sym, ◌∙◌}
-use Rattle.table.proofs.Turns.{count_cut, count_none, count-many, counted}
+use Rattle.table.proofs.Turns.{count_cut, count_none, count_many, counted}
 use borrow.Author.Rules.{rules}
 use Rattle.table.proofs.read.Statement.{statement}
 use Rattle.table.proofs.read.Tie as tie
@@ -30,7 +30,7 @@ refused-requires-3 : tie.Need-refused-requires-3
 refused-requires-3 c κs = search rules
 
 returns-3 : tie.Need-returns-3
-returns-3 c = c.refused3.ensures ∙ sym (count-many _ _ (sym c.before.before.before.before.before.before.get.ensures ∙ c.before.before.before.before.count.given.1) c.before.if2.true)
+returns-3 c = c.refused3.ensures ∙ sym (count_many _ _ (sym c.before.before.before.before.before.before.get.ensures ∙ c.before.before.before.before.count.given.1) c.before.if2.true)
 
 nodes-requires : tie.Need-nodes-requires
 nodes-requires c κs = counted _ _ (sym c.before.before.before.before.before.get.ensures ∙ c.before.before.before.count.given.1) c.before.if1.false c.if2.false

@@ -3,10 +3,10 @@ use mathlib.Core.Path.{◌≡◌, sym, ◌∙◌}
 use mathlib.Core.Bool.{true}
 use native.Mathlib.Omega.{arith}
 use borrow.Author.Tests.{not-true, not-false}
-use Rattle.tree.specs.Parents.{InRule, inRule}
+use Rattle.tree.specs.Parents.{InRule, in_rule}
 use Rattle.tree.specs.declared.Tree.{Tree}
-use Rattle.tree.proofs.InRule.{in-rule-exactly}
-use Rattle.table.proofs.Stores.{out-of-rule, too_short, room, written}
+use Rattle.tree.proofs.InRule.{in_rule_exactly}
+use Rattle.table.proofs.Stores.{out_of_rule, too_short, room, written}
 use borrow.Author.Rules.{rules}
 use Rattle.table.proofs.write.Statement.{statement}
 use Rattle.table.proofs.write.Tie as tie
@@ -16,8 +16,8 @@ module _ (g : tie.After-table-size) where
   abbrev t : Tree
   t = g.before.before.before.before.args.t1
 
-  passed : inRule t.parents t.count ≡ true
-  passed = sym g.before.before.in-rule.ensures ∙ not-false _ g.before.if1.left
+  passed : in_rule t.parents t.count ≡ true
+  passed = sym g.before.before.in_rule_lem.ensures ∙ not-false _ g.before.if1.left
 
 -- where the parents are to be put
 module _ (g : tie.After-parents-arg2) where
@@ -25,19 +25,19 @@ module _ (g : tie.After-parents-arg2) where
   sized = g.before.before.before.before.before.before.before.before.before.before.before.before
 
   rule : InRule (t sized).parents (t sized).count
-  rule = (in-rule-exactly (t sized).parents (t sized).count).0 (passed sized)
+  rule = (in_rule_exactly (t sized).parents (t sized).count).0 (passed sized)
 
 in-rule-requires : tie.Need-in-rule-requires
 in-rule-requires c κs = search rules
 
 returns : tie.Need-returns
-returns c = out-of-rule _ _ (sym c.before.in-rule.ensures ∙ not-true _ c.if1.true)
+returns c = out_of_rule _ _ (sym c.before.in_rule_lem.ensures ∙ not-true _ c.if1.true)
 
 cast-count : tie.Need-overflow-cast-count
 cast-count c = search rules
 
 table-size-requires : tie.Need-table-size-requires
-table-size-requires c κs = let r = (in-rule-exactly _ _).0 (sym c.before.in-rule.ensures ∙ not-false _ c.if1.false) in (r.some, r.few)
+table-size-requires c κs = let r = (in_rule_exactly _ _).0 (sym c.before.in_rule_lem.ensures ∙ not-false _ c.if1.false) in (r.some, r.few)
 
 returns-2 : tie.Need-returns-2
 returns-2 c = too_short (t c.before) c.before.before.before.before.before.args.out.now (passed c.before) c.before.table-size.result c.before.table-size.ensures (omega arith)

@@ -4,15 +4,15 @@ use Prim.Native.Nat.{◌*◌, ◌-◌, ◌≤◌, min}
 use native.Mathlib.Omega.{arith}
 use borrow.Author.Rules.{rules}
 use Rattle.messages.specs.Records.{kind_of}
-use Rattle.messages.specs.Writing.{bitsOfAll}
-use Rattle.messages.proofs.Widths.{width-bounds}
-use Rattle.trace.specs.inner.Traces.{messagesIn}
-use Rattle.trace.proofs.Traced.{bits-next}
+use Rattle.messages.specs.Writing.{bits_of_all}
+use Rattle.messages.proofs.Widths.{width_bounds}
+use Rattle.trace.specs.inner.Traces.{messages_in}
+use Rattle.trace.proofs.Traced.{bits_next}
 use Rattle.trace.proofs.bits.Statement.{statement}
 use Rattle.trace.proofs.bits.Tie as tie
 
 abbrev invariant-loop : tie.invariant-loop
-invariant-loop trace len end bits₀ i₀ bits i = (i ≤ end) × ((bits ≤ 58 * i) × (bits ≡ bitsOfAll (messagesIn trace i)))
+invariant-loop trace len end bits₀ i₀ bits i = (i ≤ end) × ((bits ≤ 58 * i) × (bits ≡ bits_of_all (messages_in trace i)))
 
 abbrev decreases-loop : tie.decreases-loop
 decreases-loop trace len end bits₀ i₀ bits i = end - i
@@ -21,7 +21,7 @@ most-requires : tie.Need-most-requires invariant-loop decreases-loop
 most-requires c κs = search rules
 
 loop-holds : tie.Need-loop-init invariant-loop decreases-loop
-unfolding messagesIn bitsOfAll
+unfolding messages_in bits_of_all
 loop-holds c = (omega arith, (omega arith, refl))
 
 mul-decode : tie.Need-overflow-mul-decode invariant-loop decreases-loop
@@ -38,7 +38,7 @@ bits-requires c κs = search rules
 
 -- a record has at most 58 bits
 at_most : (c : tie.After-bits invariant-loop decreases-loop) → c.bits.result ≤ 58
-at_most c = omega (arith, c.bits.ensures, width-bounds (kind_of c.before.decode.result))
+at_most c = omega (arith, c.bits.ensures, width_bounds (kind_of c.before.decode.result))
 
 add-bits : tie.Need-overflow-add-bits invariant-loop decreases-loop
 add-bits c = record { fits = omega (arith, at_most c) }
@@ -55,7 +55,7 @@ loop-again c =
       omega arith,
       (
         omega (arith, at_most c),
-        bits-next l.before.before.args.trace.now l.loop.i _ c.before.decode.ensures _ _ l.loop.invariant.1.1 c.bits.ensures,
+        bits_next l.before.before.args.trace.now l.loop.i _ c.before.decode.ensures _ _ l.loop.invariant.1.1 c.bits.ensures,
       ),
     )
 

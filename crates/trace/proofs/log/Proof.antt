@@ -4,14 +4,14 @@ use Prim.Native.Nat.{min}
 use native.Mathlib.Omega.{arith}
 use borrow.Author.Rules.{rules}
 use Rattle.messages.specs.declared.Message.{Message}
-use Rattle.trace.specs.inner.Traces.{messagesOf}
-use Rattle.trace.proofs.Whole.{messages-sized, none-logged, all-logged}
+use Rattle.trace.specs.inner.Traces.{messages_of}
+use Rattle.trace.proofs.Whole.{messages_sized, none_logged, all_logged}
 use Rattle.trace.proofs.log.Statement.{statement}
 use Rattle.trace.proofs.log.Tie as tie
 
 -- the messages
 abbrev ms : tie.Start → List Message
-ms s = messagesOf s.args.trace.now s.args.len
+ms s = messages_of s.args.trace.now s.args.len
 
 usable-bits-requires : tie.Need-usable-bits-requires
 usable-bits-requires c κs = search rules
@@ -19,7 +19,7 @@ usable-bits-requires c κs = search rules
 returns : tie.Need-returns
 returns c =
     let s = c.before.before.before in
-    none-logged s.args.log.now s.args.place (ms s) (omega (arith, c.before.usable-bits.ensures))
+    none_logged s.args.log.now s.args.place (ms s) (omega (arith, c.before.usable-bits.ensures))
 
 bits-requires : tie.Need-bits-requires
 bits-requires c κs = search rules
@@ -28,7 +28,7 @@ returns-2 : tie.Need-returns-2
 returns-2 c =
     let u = c.before.before.before in
     let s = u.before.before in
-    none-logged s.args.log.now s.args.place (ms s) (omega (arith, c.before.bits.ensures, u.usable-bits.ensures))
+    none_logged s.args.log.now s.args.place (ms s) (omega (arith, c.before.bits.ensures, u.usable-bits.ensures))
 
 record-requires : tie.Need-record-requires
 record-requires c κs = search rules
@@ -42,7 +42,7 @@ returns-3 c =
     let b = r.before.before.before in
     let u = b.before.before in
     let s = u.before.before in
-    all-logged s.args.log.now s.args.place (ms s) (omega (arith, b.bits.ensures, u.usable-bits.ensures)) (messages-sized s.args.trace.now (min s.args.len 510)) _ _ r.«record».ensures
+    all_logged s.args.log.now s.args.place (ms s) (omega (arith, b.bits.ensures, u.usable-bits.ensures)) (messages_sized s.args.trace.now (min s.args.len 510)) _ _ r.«record».ensures
 
 pub log-spec : {M : Type 1} → statement M
 log-spec =

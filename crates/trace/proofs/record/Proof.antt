@@ -4,13 +4,13 @@ use Prim.Native.Nat.{◌-◌, ◌≤◌, min}
 use native.Mathlib.Omega.{arith}
 use lib.ListN.{length}
 use borrow.Author.Rules.{rules}
-use Rattle.trace.specs.inner.Traces.{messagesIn, writing, notedAll}
-use Rattle.trace.proofs.Traced.{noted-next}
+use Rattle.trace.specs.inner.Traces.{messages_in, writing, noted_all}
+use Rattle.trace.proofs.Traced.{noted_next}
 use Rattle.trace.proofs.record.Statement.{statement}
 use Rattle.trace.proofs.record.Tie as tie
 
 abbrev invariant-loop : tie.invariant-loop
-invariant-loop log₀ place trace len end at₀ i₀ log at i = (i ≤ end) × ((length log ≡ length log₀) × (writing log at ≡ notedAll (messagesIn trace i) (writing log₀ place)))
+invariant-loop log₀ place trace len end at₀ i₀ log at i = (i ≤ end) × ((length log ≡ length log₀) × (writing log at ≡ noted_all (messages_in trace i) (writing log₀ place)))
 
 abbrev decreases-loop : tie.decreases-loop
 decreases-loop log₀ place trace len end at₀ i₀ log at i = end - i
@@ -19,7 +19,7 @@ most-requires : tie.Need-most-requires invariant-loop decreases-loop
 most-requires c κs = search rules
 
 loop-holds : tie.Need-loop-init invariant-loop decreases-loop
-unfolding messagesIn notedAll
+unfolding messages_in noted_all
 loop-holds c = (omega arith, (refl, refl))
 
 mul-decode : tie.Need-overflow-mul-decode invariant-loop decreases-loop
@@ -50,7 +50,7 @@ loop-again c =
       omega arith,
       (
         w.auto.0 ∙ l.loop.invariant.1.0,
-        noted-next l.before.before.before.args.trace.now l.loop.i _ c.before.before.before.before.decode.ensures _ l.loop.invariant.1.1 w.ensures.0 w.ensures.1 c.placed.ensures,
+        noted_next l.before.before.before.args.trace.now l.loop.i _ c.before.before.before.before.decode.ensures _ l.loop.invariant.1.1 w.ensures.0 w.ensures.1 c.placed.ensures,
       ),
     )
 

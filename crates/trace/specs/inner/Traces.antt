@@ -2,7 +2,7 @@
 use Rattle.std.specs.Prelude.{cond, ◌&&◌, List, [], ◌∷◌, ◌++◌, ℕ, zero, suc, ◌+◌, min, ltb, get_or, set, length}
 use Rattle.messages.specs.Records.{fits, coded}
 use Rattle.messages.specs.Reading.{decoded}
-use Rattle.messages.specs.Writing.{recordedOf, logAfter, logged, bitsOfAll, roomForAll}
+use Rattle.messages.specs.Writing.{recorded_of, log_after, logged, bits_of_all, room_for_all}
 use Rattle.messages.specs.declared.Message.{Message}
 use Rattle.messages.specs.declared.Recorded.{Recorded}
 use Rattle.messages.specs.declared.Recorded.TheVariants.{Next, Full, Misfit}
@@ -21,31 +21,31 @@ trace ns k = record { numbers = ns; len = k }
 unfoldable pub pushed : Message → Trace → Trace
 pushed m t = cond (fits m && ltb t.len 510) (trace (set t.numbers t.len (coded m)) (t.len + 1)) t
 
-unfoldable pub pushedAll : List Message → Trace → Trace
-pushedAll [] t = t
-pushedAll (m ∷ ms) t = pushedAll ms (pushed m t)
+unfoldable pub pushed_all : List Message → Trace → Trace
+pushed_all [] t = t
+pushed_all (m ∷ ms) t = pushed_all ms (pushed m t)
 
 -- the first k messages of a trace
-unfoldable pub messagesIn : List ℕ → ℕ → List Message
-messagesIn ns zero = []
-messagesIn ns (suc k) = messagesIn ns k ++ (decoded (get_or ns k 0) ∷ [])
+unfoldable pub messages_in : List ℕ → ℕ → List Message
+messages_in ns zero = []
+messages_in ns (suc k) = messages_in ns k ++ (decoded (get_or ns k 0) ∷ [])
 
 -- the messages of a trace
-abbrev pub messagesOf : List ℕ → ℕ → List Message
-messagesOf ns len = messagesIn ns (min len 510)
+abbrev pub messages_of : List ℕ → ℕ → List Message
+messages_of ns len = messages_in ns (min len 510)
 
 -- what logging messages answers: the place after the last record, where there is room for all
-unfoldable pub loggedOf : ℕ → ℕ → List Message → Logged
-loggedOf n place ms = cond (roomForAll n place ms) (logging.Next (place + bitsOfAll ms)) logging.Full
+unfoldable pub logged_of : ℕ → ℕ → List Message → Logged
+logged_of n place ms = cond (room_for_all n place ms) (logging.Next (place + bits_of_all ms)) logging.Full
 
 -- the log with the records of all messages; as it was where there is no room for all
-unfoldable pub logAfterAll : List ℕ → ℕ → List Message → List ℕ
-logAfterAll log place ms = cond (roomForAll (length log) place ms) (logged log place ms) log
+unfoldable pub log_after_all : List ℕ → ℕ → List Message → List ℕ
+log_after_all log place ms = cond (room_for_all (length log) place ms) (logged log place ms) log
 
 -- document 01's number for what logging answers, and the next place: 9 where the place is past the usable log, or there are too few bits for all records
-abbrev pub toldLogged : Logged → ℕ × ℕ
-toldLogged (logging.Next place) = (0, place)
-toldLogged logging.Full = (9, 0)
+abbrev pub told_logged : Logged → ℕ × ℕ
+told_logged (logging.Next place) = (0, place)
+told_logged logging.Full = (9, 0)
 
 -- ---- logging message by message
 
@@ -65,8 +65,8 @@ placed Misfit place = place
 
 -- a log after one message was written, and after messages were written one by one
 abbrev pub noted : Message → Writing → Writing
-noted m w = writing (logAfter w.log w.place m) (placed (recordedOf (length w.log) w.place m) w.place)
+noted m w = writing (log_after w.log w.place m) (placed (recorded_of (length w.log) w.place m) w.place)
 
-unfoldable pub notedAll : List Message → Writing → Writing
-notedAll [] w = w
-notedAll (m ∷ ms) w = notedAll ms (noted m w)
+unfoldable pub noted_all : List Message → Writing → Writing
+noted_all [] w = w
+noted_all (m ∷ ms) w = noted_all ms (noted m w)

@@ -4,7 +4,7 @@ use mir.Facts.{to_z-of_z}
 use mir.Syntax.{w64}
 use borrow.Author.Rules.{rules}
 use Rattle.twos.specs.Twos.{decoded}
-use Rattle.twos.proofs.Misfits.{decodes-is}
+use Rattle.twos.proofs.Misfits.{decodes_is}
 use Rattle.twos.proofs.decode.Statement.{statement}
 use Rattle.twos.proofs.decode.Tie as tie
 
@@ -12,7 +12,7 @@ decodes-requires : tie.Need-decodes-requires
 decodes-requires c κs = search rules
 
 value-requires : tie.Need-value-requires
-value-requires c κs = decodes-is _ _ (sym c.before.decodes.ensures ∙ c.if1.true)
+value-requires c κs = decodes_is _ _ (sym c.before.decodes.ensures ∙ c.if1.true)
 
 returns : tie.Need-returns
 unfolding decoded

@@ -3,7 +3,7 @@ use mathlib.Core.Path.{sym, ap, ◌∙◌}
 use mir.Facts.{to_z-of_z}
 use borrow.Author.Rules.{rules}
 use Rattle.twos.specs.Twos.{twos, encoded}
-use Rattle.twos.proofs.Misfits.{encodes-is}
+use Rattle.twos.proofs.Misfits.{encodes_is}
 use Rattle.twos.proofs.encode.Statement.{statement}
 use Rattle.twos.proofs.encode.Tie as tie
 
@@ -11,7 +11,7 @@ encodes-requires : tie.Need-encodes-requires
 encodes-requires c κs = search rules
 
 number-requires : tie.Need-number-requires
-number-requires c κs = encodes-is _ _ (sym c.before.encodes.ensures ∙ c.if1.true)
+number-requires c κs = encodes_is _ _ (sym c.before.encodes.ensures ∙ c.if1.true)
 
 returns : tie.Need-returns
 unfolding encoded

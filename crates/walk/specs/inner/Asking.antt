@@ -5,8 +5,8 @@ use Rattle.std.proofs.Common.{SFits}
 use Rattle.tree.specs.Operation.{sum}
 use Rattle.tree.specs.Sides.{adjacent, other}
 use Rattle.mechanism.specs.Views.{View}
-use Rattle.mechanism.specs.Combining.{said, stepIf, sofar, ask}
-use Rattle.trace.specs.inner.Traces.{Trace, pushedAll}
+use Rattle.mechanism.specs.Combining.{said, step_if, sofar, ask}
+use Rattle.trace.specs.inner.Traces.{Trace, pushed_all}
 use Rattle.walk.specs.inner.Links.{Linked}
 
 -- every partial sum of a walk fits 64 bits
@@ -26,14 +26,14 @@ pub record Visiting (q : View) (first next : List ℕ) (f u v w : ℕ) (z : ℤ)
   pub asking : Asking q first next u v
   pub there : w < q.count
   pub beside : adjacent q.parents w u ≡ true
-  pub fits : SFits w64 (stepIf sum q (other q.parents u v w) (ask sum q f) u w (said z [])).sum
+  pub fits : SFits w64 (step_if sum q (other q.parents u v w) (ask sum q f) u w (said z [])).sum
 
 -- what the walk at u, come from v, leaves: its sum, and its messages after those of t
 pub record Replied (q : View) (f u v : ℕ) (t : Trace) (z : ℤ) (t' : Trace) : Type 0 where
   pub sums : z ≡ (ask sum q f u v).sum
-  pub logs : t' ≡ pushedAll (ask sum q f u v).log t
+  pub logs : t' ≡ pushed_all (ask sum q f u v).log t
 
 -- what the visit of w adds to a sum and to t
 pub record Visited (q : View) (f u v w : ℕ) (z : ℤ) (t : Trace) (z' : ℤ) (t' : Trace) : Type 0 where
-  pub sums : z' ≡ (stepIf sum q (other q.parents u v w) (ask sum q f) u w (said z [])).sum
-  pub logs : t' ≡ pushedAll (stepIf sum q (other q.parents u v w) (ask sum q f) u w (said z [])).log t
+  pub sums : z' ≡ (step_if sum q (other q.parents u v w) (ask sum q f) u w (said z [])).sum
+  pub logs : t' ≡ pushed_all (step_if sum q (other q.parents u v w) (ask sum q f) u w (said z [])).log t

@@ -8,7 +8,7 @@ use Rattle.tree.specs.Sides.{adjacent, side}
 use Rattle.tree.specs.Turns.{turn}
 use Rattle.session.specs.Holding.{pair_at}
 use Rattle.mechanism.specs.Views.{View}
-use Rattle.mechanism.specs.Spreading.{addIf}
+use Rattle.mechanism.specs.Spreading.{add_if}
 
 -- what is known by a cache: the cache where there is a lease, and nothing where there is none
 unfoldable pub known_by : ℕ → ℤ → ℤ
@@ -25,7 +25,7 @@ away q x u c = adjacent q.parents c u && not (side q.parents c u x)
 -- what u knows of those of its last m candidates that are neighbours, the one towards x left out
 unfoldable pub later : View → ℕ → ℕ → ℕ → ℤ
 later q x u zero = pos 0
-later q x u (suc m) = addIf sum q (away q x u (turn q.count u (q.count - suc m))) (later q x u m) (known q (turn q.count u (q.count - suc m)) u)
+later q x u (suc m) = add_if sum q (away q x u (turn q.count u (q.count - suc m))) (later q x u m) (known q (turn q.count u (q.count - suc m)) u)
 
 -- x is a node, and all that may come up fits 64 bits
 pub record Passing (q : View) (x : ℕ) : Type 0 where

@@ -18,13 +18,13 @@ pub record Linked (n : ℕ) (ps first next : List ℕ) : Type 0 where
   pub nexts : (w : ℕ) → 0 < w → w < n → Found n (child ps (parent ps w)) (w + 1) (get_or next w 0)
 
 -- u's candidate at place k is a neighbour
-unfoldable pub neighbourAt : ℕ → List ℕ → ℕ → ℕ → Bool
-neighbourAt n ps u k = adjacent ps (turn n u k) u
+unfoldable pub neighbour_at : ℕ → List ℕ → ℕ → ℕ → Bool
+neighbour_at n ps u k = adjacent ps (turn n u k) u
 
 -- k is the place of a neighbour of u
 pub record Placed (n : ℕ) (ps first next : List ℕ) (u k : ℕ) : Type 0 where
   pub room : n ≤ 256
   pub inside : u < n
   pub place : k < n
-  pub beside : neighbourAt n ps u k ≡ true
+  pub beside : neighbour_at n ps u k ≡ true
   pub linked : Linked n ps first next

@@ -8,9 +8,9 @@ use Rattle.tree.specs.Sizes.{size}
 use Rattle.tree.specs.Turns.{turn}
 use Rattle.session.specs.Soundness.{Ordered}
 use Rattle.mechanism.specs.Views.{View}
-use Rattle.mechanism.specs.Spreading.{addIf, sends, spread}
-use Rattle.trace.specs.inner.Traces.{Trace, pushedAll}
-use Rattle.walk.specs.inner.Links.{Linked, neighbourAt}
+use Rattle.mechanism.specs.Spreading.{add_if, sends, spread}
+use Rattle.trace.specs.inner.Traces.{Trace, pushed_all}
+use Rattle.walk.specs.inner.Links.{Linked, neighbour_at}
 use Rattle.walk.specs.inner.Laters.{known, Passed}
 
 -- a view on which a write's walk can go: values and leased caches are in range, and neighbouring numbers in order
@@ -18,12 +18,12 @@ pub record Steady (q : View) : Type 0 where
   pub room : q.count ≤ 256
   pub grown : Grown q.parents q.count
   pub ordered : Ordered q.parents q.count q.lease
-  pub values-in : (u : ℕ) → Range 1 (q.value u)
-  pub caches-in : (u v : ℕ) → u < q.count → v < q.count → adjacent q.parents v u ≡ true → q.lease u v ≢ 0 → Range (size q.parents q.count u v) (q.cache u v)
+  pub values_in : (u : ℕ) → Range 1 (q.value u)
+  pub caches_in : (u v : ℕ) → u < q.count → v < q.count → adjacent q.parents v u ≡ true → q.lease u v ≢ 0 → Range (size q.parents q.count u v) (q.cache u v)
 
 -- no neighbour among the first k candidates of x holds a lease
 pub record SilentUpTo (n : ℕ) (ps : List ℕ) (lease : ℕ → ℕ → ℕ) (x k : ℕ) : Type 0 where
-  pub none : (j : ℕ) → j < k → neighbourAt n ps x j ≡ true → lease x (turn n x j) ≡ 0
+  pub none : (j : ℕ) → j < k → neighbour_at n ps x j ≡ true → lease x (turn n x j) ≡ 0
 
 -- u was told z by v, beyond which x is; or by nobody, where u is x
 pub record Come (q : View) (x u v : ℕ) (z : ℤ) : Type 0 where
@@ -34,7 +34,7 @@ pub record Come (q : View) (x u v : ℕ) (z : ℤ) : Type 0 where
 -- u's value, what it was told, and what it knows of its first k candidates that are neighbours but v
 unfoldable pub before : View → ℕ → ℕ → ℤ → ℕ → ℤ
 before q u v z zero = q.value u +ℤ z
-before q u v z (suc k) = addIf sum q (other q.parents u v (turn q.count u k)) (before q u v z k) (known q (turn q.count u k) u)
+before q u v z (suc k) = add_if sum q (other q.parents u v (turn q.count u k)) (before q u v z k) (known q (turn q.count u k) u)
 
 -- u, told z by v, may tell its neighbours
 pub record Spreading (q : View) (first next : List ℕ) (later-up later-down : List ℤ) (u v : ℕ) (z : ℤ) : Type 0 where
@@ -58,9 +58,9 @@ pub record Telling (q : View) (first next : List ℕ) (later-up later-down : Lis
 
 -- what the walk at u leaves: its messages after those of t
 pub record Spread (q : View) (f u v : ℕ) (z : ℤ) (t t' : Trace) : Type 0 where
-  pub logs : t' ≡ pushedAll (spread sum q f u v z) t
+  pub logs : t' ≡ pushed_all (spread sum q f u v z) t
 
 -- what telling w adds to a sum and to t
 pub record Told (q : View) (f u v : ℕ) (z : ℤ) (w : ℕ) (y : ℤ) (t : Trace) (y' : ℤ) (t' : Trace) : Type 0 where
-  pub sums : y' ≡ addIf sum q (other q.parents u v w) y (known q w u)
-  pub logs : t' ≡ pushedAll (sends sum q (other q.parents u v w) (q.lease u w) (spread sum q f) u v z w) t
+  pub sums : y' ≡ add_if sum q (other q.parents u v w) y (known q w u)
+  pub logs : t' ≡ pushed_all (sends sum q (other q.parents u v w) (q.lease u w) (spread sum q f) u v z w) t

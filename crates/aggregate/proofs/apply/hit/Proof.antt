@@ -2,10 +2,10 @@
 use mathlib.Core.Path.{◌∙◌}
 use lib.IntN.{pos}
 use lib.Seq.{set-get_or}
-use Rattle.messages.proofs.Parts.{handed-on}
+use Rattle.messages.proofs.Parts.{handed_on}
 use Rattle.mechanism.specs.Applying.{hit}
 use borrow.Author.Rules.{rules}
-use Rattle.aggregate.proofs.ByRule.{after_write}
+use Rattle.aggregate.proofs.ByRule.{after_write_lem}
 use Rattle.aggregate.proofs.apply.hit.Statement.{statement}
 use Rattle.aggregate.proofs.apply.hit.Tie as tie
 
@@ -68,13 +68,13 @@ unfolding hit
 returns-2 c =
     let s = c.before.before.before.before.args in
     let m = c.before.message.given in
-    rw (m.1, set-get_or s.lease.now s.i 0, handed-on m.0.1.1.0 c.known-told.given.1.1.0.1)
+    rw (m.1, set-get_or s.lease.now s.i 0, handed_on m.0.1.1.0 c.known-told.given.1.1.0.1)
 
 returns-3 : tie.Need-returns-3
 unfolding hit
 returns-3 c =
     let m = c.before.before.before.message2.given in
-    rw (m.1, c.after-writes.ensures ∙ after_write _, handed-on m.0.1.1.0 c.before.before.known-told2.given.1.1.0.1)
+    rw (m.1, c.after-writes.ensures ∙ after_write_lem _, handed_on m.0.1.1.0 c.before.before.known-told2.given.1.1.0.1)
 
 returns-4 : tie.Need-returns-4
 unfolding hit

@@ -11,8 +11,8 @@ use borrow.Fn.Kinds.{In}
 use borrow.Fn.PlainCycle.{Measures, is, falls, and}
 use Rattle.mechanism.specs.Views.{view_of}
 use Rattle.trace.specs.inner.Traces as traces
-use Rattle.messages.proofs.Parts.{handed-on}
-use Rattle.walk.proofs.Steps.{visited-back, kept-fits, visited-kept, asked-fits, visited-asked, Standing, partly_none, partly-next, stand, told_none, told-all, visiting, placed}
+use Rattle.messages.proofs.Parts.{handed_on}
+use Rattle.walk.proofs.Steps.{visited_back, kept_fits, visited_kept, asked_fits, visited_asked, Standing, partly_none, partly_next, stand, told_none, told_all, visiting, placed}
 use Rattle.aggregate.proofs.ask.ask.Reads as ask
 use Rattle.aggregate.proofs.ask.ask.Kinds as ask-kinds
 use Rattle.aggregate.proofs.ask.+ask_visit.Lts-ask as ask-lts
@@ -92,13 +92,13 @@ ask-value-requires : (t : ℕ) → ask-lts.Need-value-requires (ask-calls t) (as
 ask-value-requires t c κs = search rules
 
 ask-returns : (t : ℕ) → ask-lts.Need-returns (ask-calls t) (ask-at t) ask.Post ask-Inv-loop ask-μ-loop
-ask-returns t c = told_none c.if1.true (handed-on _ c.before.value.type-inv ∙ c.before.value.ensures)
+ask-returns t c = told_none c.if1.true (handed_on _ c.before.value.type-inv ∙ c.before.value.ensures)
 
 ask-first-requires : (t : ℕ) → ask-lts.Need-first-requires (ask-calls t) (ask-at t) ask.Post ask-Inv-loop ask-μ-loop
 ask-first-requires t c κs = let p = c.before.before.requires.1 in (p.inside, (p.room, p.linked))
 
 ask-loop-holds : (t : ℕ) → ask-lts.Need-loop-init (ask-calls t) (ask-at t) ask.Post ask-Inv-loop ask-μ-loop
-ask-loop-holds t c = stand c.first.ensures (partly_none (handed-on _ c.before.before.value.type-inv ∙ c.before.before.value.ensures))
+ask-loop-holds t c = stand c.first.ensures (partly_none (handed_on _ c.before.before.value.type-inv ∙ c.before.before.value.ensures))
 
 ask-turn-requires : (t : ℕ) → ask-lts.Need-turn-requires (ask-calls t) (ask-at t) ask.Post ask-Inv-loop ask-μ-loop
 ask-turn-requires t c κs = search rules
@@ -123,13 +123,13 @@ ask-loop-again : (t : ℕ) → ask-lts.Need-loop-preserved (ask-calls t) (ask-at
 ask-loop-again t c =
     let l = c.before.before.before.before.before.before in
     stand c.next.ensures
-    (partly-next c.before.before.before.before.turn.ensures l.loop.invariant.partly (rw (handed-on c.before.before.visit.result.sum c.before.struct_told.given.0.1) c.before.before.visit.ensures))
+    (partly_next c.before.before.before.before.turn.ensures l.loop.invariant.partly (rw (handed_on c.before.before.visit.result.sum c.before.struct_told.given.0.1) c.before.before.visit.ensures))
 
 ask-returns-2 : (t : ℕ) → ask-lts.Need-returns-2 (ask-calls t) (ask-at t) ask.Post ask-Inv-loop ask-μ-loop
-ask-returns-2 t c = told-all c.before.before.before.if1.false c.loop-test.false c.before.loop.invariant
+ask-returns-2 t c = told_all c.before.before.before.if1.false c.loop-test.false c.before.loop.invariant
 
 visit-returns : (t : ℕ) → visit-lts.Need-returns (visit-calls t) (visit-at t) visit.Post
-visit-returns t c = rw (to_z-of_z c.before.ranges.sum) (visited-back c.if1.true)
+visit-returns t c = rw (to_z-of_z c.before.ranges.sum) (visited_back c.if1.true)
 
 visit-lease-requires : (t : ℕ) → visit-lts.Need-lease-requires (visit-calls t) (visit-at t) visit.Post
 visit-lease-requires t c κs = search rules
@@ -141,15 +141,15 @@ visit-plus-requires : (t : ℕ) → visit-lts.Need-plus-requires (visit-calls t)
 visit-plus-requires t c κs =
     let e = c.before in
     let s = e.before.before.before in
-    rw (to_z-of_z s.ranges.sum, handed-on c.cache.result c.cache.type-inv) (kept-fits s.requires.1 e.before.before.if1.false e.before.lease.ensures e.if2.true c.cache.ensures)
+    rw (to_z-of_z s.ranges.sum, handed_on c.cache.result c.cache.type-inv) (kept_fits s.requires.1 e.before.before.if1.false e.before.lease.ensures e.if2.true c.cache.ensures)
 
 visit-returns-2 : (t : ℕ) → visit-lts.Need-returns-2 (visit-calls t) (visit-at t) visit.Post
 visit-returns-2 t c =
     let e = c.before.before in
     let s = e.before.before.before in
-    rw (handed-on c.plus.result c.plus.type-inv)
-    (visited-kept s.requires.1 e.before.before.if1.false e.before.lease.ensures e.if2.true c.before.cache.ensures
-    (rw (to_z-of_z s.ranges.sum, handed-on c.before.cache.result c.before.cache.type-inv) at c.plus.ensures))
+    rw (handed_on c.plus.result c.plus.type-inv)
+    (visited_kept s.requires.1 e.before.before.if1.false e.before.lease.ensures e.if2.true c.before.cache.ensures
+    (rw (to_z-of_z s.ranges.sum, handed_on c.before.cache.result c.before.cache.type-inv) at c.plus.ensures))
 
 visit-byte-requires : (t : ℕ) → visit-lts.Need-byte-requires (visit-calls t) (visit-at t) visit.Post
 visit-byte-requires t c κs = search rules
@@ -180,8 +180,8 @@ visit-plus-requires-2 t c κs =
     let a = told.before in
     let e = a.before.before.before.before.before.before in
     let s = e.before.before.before in
-    rw (to_z-of_z s.ranges.sum, handed-on a.ask.result.sum told.struct_told.given.0.1)
-    (asked-fits s.requires.1 e.before.before.if1.false e.before.lease.ensures e.if2.false a.ask.ensures)
+    rw (to_z-of_z s.ranges.sum, handed_on a.ask.result.sum told.struct_told.given.0.1)
+    (asked_fits s.requires.1 e.before.before.if1.false e.before.lease.ensures e.if2.false a.ask.ensures)
 
 visit-returns-3 : (t : ℕ) → visit-lts.Need-returns-3 (visit-calls t) (visit-at t) visit.Post
 visit-returns-3 t c =
@@ -191,9 +191,9 @@ visit-returns-3 t c =
     let p = a.before.before in
     let e = p.before.before.before.before in
     let s = e.before.before.before in
-    let z = handed-on a.ask.result.sum told.struct_told.given.0.1 in
-    rw (handed-on c.plus2.result c.plus2.type-inv)
-    (visited-asked s.requires.1 e.before.before.if1.false e.before.lease.ensures e.if2.false a.ask.ensures
+    let z = handed_on a.ask.result.sum told.struct_told.given.0.1 in
+    rw (handed_on c.plus2.result c.plus2.type-inv)
+    (visited_asked s.requires.1 e.before.before.if1.false e.before.lease.ensures e.if2.false a.ask.ensures
     (rw (p.before.before.byte.ensures, p.before.byte2.ensures) at p.push.ensures)
     (rw (b.before.byte3.ensures, b.byte4.ensures, z) at c.before.push2.ensures)
     (rw (to_z-of_z s.ranges.sum, z) at c.plus2.ensures))

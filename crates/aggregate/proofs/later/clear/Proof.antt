@@ -4,7 +4,7 @@ use Prim.Native.Nat.{◌-◌, ◌≤◌}
 use native.Mathlib.Omega.{arith}
 use borrow.Author.Rules.{rules}
 use Rattle.walk.specs.inner.Laters.{Cleared}
-use Rattle.walk.proofs.Passes.{cleared-none, cleared-next}
+use Rattle.walk.proofs.Passes.{cleared_none, cleared_next}
 use Rattle.aggregate.proofs.later.clear.Statement.{statement}
 use Rattle.aggregate.proofs.later.clear.Tie as tie
 
@@ -18,7 +18,7 @@ full-requires : tie.Need-full-requires invariant-loop decreases-loop
 full-requires c κs = search rules
 
 loop-holds : tie.Need-loop-init invariant-loop decreases-loop
-loop-holds c = (omega arith, cleared-none c.full.ensures)
+loop-holds c = (omega arith, cleared_none c.full.ensures)
 
 mul-sums : tie.Need-overflow-mul-sums invariant-loop decreases-loop
 mul-sums c = search rules
@@ -33,7 +33,7 @@ loop-less : tie.Need-loop-smaller invariant-loop decreases-loop
 loop-less c = search rules
 
 loop-again : tie.Need-loop-preserved invariant-loop decreases-loop
-loop-again c = (omega arith, cleared-next c.before.loop.invariant.1 (omega (arith, c.before.before.before.before.requires)))
+loop-again c = (omega arith, cleared_next c.before.loop.invariant.1 (omega (arith, c.before.before.before.before.requires)))
 
 returns : tie.Need-returns invariant-loop decreases-loop
 returns c = let e : c.before.loop.u ≡ c.before.before.before.before.args.count = omega arith in rw e at c.before.loop.invariant.1

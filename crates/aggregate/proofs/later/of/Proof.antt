@@ -10,9 +10,9 @@ use borrow.Author.Rules.{rules}
 use borrow.Author.Tests.{lt-ltb}
 use Rattle.session.specs.Holding.{pair_at}
 use Rattle.mechanism.specs.Views.{View, view_of}
-use Rattle.messages.proofs.Parts.{handed-on}
+use Rattle.messages.proofs.Parts.{handed_on}
 use Rattle.walk.specs.inner.Laters.{known_by, known}
-use Rattle.walk.proofs.Passes.{Passes, Turning, passes_none, parent-less, due-fits, passes_on, passes-off, passed-all}
+use Rattle.walk.proofs.Passes.{Passes, Turning, passes_none, parent_less, due_fits, passes_on, passes_off, passed_all}
 use Rattle.aggregate.proofs.later.of.Statement.{statement}
 use Rattle.aggregate.proofs.later.of.Tie as tie
 
@@ -40,7 +40,7 @@ module _ (c : tie.After-down invariant-loop decreases-loop) where
   turning = record { passing = start.pre; before = loop.loop.inv; next = omega arith; some = omega arith; is = c.before.node.ensures.0 }
 
   held : to_z w64 (of_z w64 (get_or loop.loop.up c.before.node.result (pos 0))) ≡ get_or loop.loop.up c.before.node.result (pos 0)
-  held = handed-on _ c.down.given
+  held = handed_on _ c.down.given
 
 -- what the parent knows of the node stands at the node
 module _ (c : tie.After-known invariant-loop decreases-loop) where
@@ -49,7 +49,7 @@ module _ (c : tie.After-known invariant-loop decreases-loop) where
 
   knows : c.known.result ≡ known (view down) ((loop down).loop.i - 1) down.before.node.result
   unfolding pair_at
-  knows = rw (lt-ltb _ _ (parent-less (turning down))) (c.known.ensures ∙ ap (known_by _) (handed-on _ c.before.known-arg2.given))
+  knows = rw (lt-ltb _ _ (parent_less (turning down))) (c.known.ensures ∙ ap (known_by _) (handed_on _ c.before.known-arg2.given))
 
 clear-requires : tie.Need-clear-requires invariant-loop decreases-loop
 clear-requires c κs = c.before.requires.room
@@ -107,7 +107,7 @@ known-requires c κs = search rules
 
 plus-requires : tie.Need-plus-requires invariant-loop decreases-loop
 plus-requires c κs =
-    rw (held (down c), handed-on c.known.result c.known.type-inv) (due-fits (turning (down c)) c.before.before.before.before.if1.false (knows c))
+    rw (held (down c), handed_on c.known.result c.known.type-inv) (due_fits (turning (down c)) c.before.before.before.before.if1.false (knows c))
 
 mul-t41 : tie.Need-overflow-mul-t41 invariant-loop decreases-loop
 mul-t41 c = search rules
@@ -121,11 +121,11 @@ loop-less-2 c = search rules
 loop-again-2 : tie.Need-loop-preserved-2 invariant-loop decreases-loop
 loop-again-2 c =
     let k = c.before in
-    rw (held (down k), handed-on c.plus.result c.plus.type-inv)
-    (passes-off (turning (down k)) k.before.before.before.before.if1.false (knows k) (rw (held (down k), handed-on k.known.result k.known.type-inv) at c.plus.ensures))
+    rw (held (down k), handed_on c.plus.result c.plus.type-inv)
+    (passes_off (turning (down k)) k.before.before.before.before.if1.false (knows k) (rw (held (down k), handed_on k.known.result k.known.type-inv) at c.plus.ensures))
 
 returns : tie.Need-returns invariant-loop decreases-loop
-returns c = passed-all c.before.loop.invariant c.loop-test.false
+returns c = passed_all c.before.loop.invariant c.loop-test.false
 
 pub of_spec : {M : Type 1} → statement M
 of_spec =

@@ -1,6 +1,6 @@
 -- `links::first` meets its contract: the root's first child, any other node's parent.
 use borrow.Author.Rules.{rules}
-use Rattle.walk.proofs.Neighbours.{first-root, first-parent}
+use Rattle.walk.proofs.Neighbours.{first_root, first_parent}
 use Rattle.aggregate.proofs.links.first.Statement.{statement}
 use Rattle.aggregate.proofs.links.first.Tie as tie
 
@@ -11,7 +11,7 @@ link-requires : tie.Need-link-requires
 link-requires c κs = search rules
 
 returns : tie.Need-returns
-returns c = let s = c.before.before.before in rw c.link.ensures (first-root s.requires.0 s.requires.1.1 c.before.before.if1.true)
+returns c = let s = c.before.before.before in rw c.link.ensures (first_root s.requires.0 s.requires.1.1 c.before.before.if1.true)
 
 element-copy-out-node : tie.Need-element-copy-out-node
 element-copy-out-node c = search rules
@@ -20,7 +20,7 @@ node-requires : tie.Need-node-requires
 node-requires c κs = search rules
 
 returns-2 : tie.Need-returns-2
-returns-2 c = let s = c.before.before.before in rw c.node.ensures.0 (first-parent s.requires.0 s.requires.1.1 c.before.before.if1.false)
+returns-2 c = let s = c.before.before.before in rw c.node.ensures.0 (first_parent s.requires.0 s.requires.1.1 c.before.before.if1.false)
 
 pub first_spec : {M : Type 1} → statement M
 first_spec =

@@ -1,7 +1,7 @@
 -- `links::of` meets its contract: the nodes from i on are linked.
 use native.Mathlib.Omega.{arith}
 use borrow.Author.Rules.{rules}
-use Rattle.walk.proofs.Linking.{Linking, linking-none, linking-next, linked-all}
+use Rattle.walk.proofs.Linking.{Linking, linking_none, linking_next, linked_all}
 use Rattle.aggregate.proofs.links.of.Statement.{statement}
 use Rattle.aggregate.proofs.links.of.Tie as tie
 
@@ -12,7 +12,7 @@ abbrev decreases-loop : tie.decreases-loop
 decreases-loop count parents first₀ next₀ i₀ first next i = i
 
 loop-holds : tie.Need-loop-init invariant-loop decreases-loop
-loop-holds c = linking-none c.requires.0
+loop-holds c = linking_none c.requires.0
 
 sub-i : tie.Need-overflow-sub-i invariant-loop decreases-loop
 sub-i c = search rules
@@ -51,10 +51,10 @@ loop-again : tie.Need-loop-preserved invariant-loop decreases-loop
 loop-again c =
     let l = c.before.before.before.before in
     let e = c.before.before.link.ensures in
-    rw e (linking-next l.before.requires.1.0 l.before.requires.1.1 (omega arith) (rw e at c.node.ensures.0) (omega arith) l.loop.invariant)
+    rw e (linking_next l.before.requires.1.0 l.before.requires.1.1 (omega arith) (rw e at c.node.ensures.0) (omega arith) l.loop.invariant)
 
 returns : tie.Need-returns invariant-loop decreases-loop
-returns c = linked-all c.before.before.requires.1.0 c.before.before.requires.1.1 c.loop-test.false c.before.loop.invariant
+returns c = linked_all c.before.before.requires.1.0 c.before.before.requires.1.1 c.loop-test.false c.before.loop.invariant
 
 pub of_spec : {M : Type 1} → statement M
 of_spec =

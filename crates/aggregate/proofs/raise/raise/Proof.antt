@@ -3,8 +3,8 @@ use mathlib.Core.Path.{◌≡◌, ◌∙◌}
 use Prim.Native.Nat.{suc, ◌-◌}
 use native.Mathlib.Omega.{arith}
 use borrow.Author.Rules.{rules}
-use Rattle.aggregate.proofs.ByRule.{after-combine}
-use Rattle.aggregate.proofs.Raising.{Climbed, climbed-none, climbed-on, climbed-off, climbed-all}
+use Rattle.aggregate.proofs.ByRule.{after_combine_lem}
+use Rattle.aggregate.proofs.Raising.{Climbed, climbed_none, climbed_on, climbed_off, climbed_all}
 use Rattle.aggregate.proofs.raise.raise.Statement.{statement}
 use Rattle.aggregate.proofs.raise.raise.Tie as tie
 
@@ -15,7 +15,7 @@ abbrev decreases-loop : tie.decreases-loop
 decreases-loop count parents x up₀ down₀ at₀ i₀ up down at i = i
 
 loop-holds : tie.Need-loop-init invariant-loop decreases-loop
-loop-holds c = climbed-none c.requires
+loop-holds c = climbed_none c.requires
 
 sub-i : tie.Need-overflow-sub-i invariant-loop decreases-loop
 sub-i c = search rules
@@ -42,7 +42,7 @@ loop-again : tie.Need-loop-preserved invariant-loop decreases-loop
 loop-again c =
     let l = c.before.before.before.before.before.before in
     let e : l.loop.i ≡ suc (l.loop.i - 1) = omega arith in
-    rw (c.node.ensures.0, c.before.before.after-combines.ensures ∙ after-combine _) (climbed-on l.before.requires l.loop.invariant e (omega arith) c.before.before.before.before.if1.true)
+    rw (c.node.ensures.0, c.before.before.after-combines.ensures ∙ after_combine_lem _) (climbed_on l.before.requires l.loop.invariant e (omega arith) c.before.before.before.before.if1.true)
 
 element-copy-out-number-2 : tie.Need-element-copy-out-number-2 invariant-loop decreases-loop
 element-copy-out-number-2 c = search rules
@@ -60,10 +60,10 @@ loop-again-2 : tie.Need-loop-preserved-2 invariant-loop decreases-loop
 loop-again-2 c =
     let l = c.before.before.before.before in
     let e : l.loop.i ≡ suc (l.loop.i - 1) = omega arith in
-    rw (c.after-combines2.ensures ∙ after-combine _) (climbed-off l.before.requires l.loop.invariant e (omega arith) c.before.before.if1.false)
+    rw (c.after-combines2.ensures ∙ after_combine_lem _) (climbed_off l.before.requires l.loop.invariant e (omega arith) c.before.before.if1.false)
 
 returns : tie.Need-returns invariant-loop decreases-loop
-returns c = climbed-all c.before.before.requires c.before.loop.invariant (omega arith)
+returns c = climbed_all c.before.before.requires c.before.loop.invariant (omega arith)
 
 pub raise-spec : {M : Type 1} → statement M
 raise-spec =

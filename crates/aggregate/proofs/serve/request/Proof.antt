@@ -9,29 +9,29 @@ use mir.Facts.{to_z-of_z}
 use mir.Syntax.{w32}
 use borrow.Author.Rules.{rules}
 use Rattle.tree.specs.Operation.{sum}
-use Rattle.messages.proofs.Parts.{handed-on}
+use Rattle.messages.proofs.Parts.{handed_on}
 use Rattle.requests.specs.declared.Request.{Request}
-use Rattle.session.specs.Parts.{sessionBy}
+use Rattle.session.specs.Parts.{session_by}
 use Rattle.session.specs.declared.Session.{Session}
 use Rattle.mechanism.specs.Combining.{Said}
 use Rattle.requests.specs.Lists.{node_of}
 use Rattle.mechanism.specs.Requests.{says}
 use Rattle.mechanism.specs.Views.{view}
-use Rattle.trace.specs.inner.Traces.{trace, pushedAll, loggedOf, logAfterAll}
-use Rattle.aggregate.specs.inner.Acts.{requestOf, Walked, earlyRefusal}
-use Rattle.aggregate.proofs.Paid.{counts-paid}
+use Rattle.trace.specs.inner.Traces.{trace, pushed_all, logged_of, log_after_all}
+use Rattle.aggregate.specs.inner.Acts.{request_of, Walked, early_refusal}
+use Rattle.aggregate.proofs.Paid.{counts_paid}
 use Rattle.aggregate.proofs.Judging.{Ready, ready}
-use Rattle.aggregate.proofs.Ending.{Spoken, spoken, ends-early, ends-full, ends-well}
-use Rattle.aggregate.proofs.Acting.{node-of, begunOf, walkable, says-walked, restored, refused-in-place, climbing, settled}
+use Rattle.aggregate.proofs.Ending.{Spoken, spoken, ends_early, ends_full, ends_well}
+use Rattle.aggregate.proofs.Acting.{node_of_lem, begun_of, walkable, says_walked, restored, refused_in_place, climbing, settled}
 use Rattle.aggregate.proofs.serve.request.Statement.{statement}
 use Rattle.aggregate.proofs.serve.request.Tie as tie
 
 -- the session, and the request
 abbrev of : tie.Start → Session
-of s = let a = s.args in sessionBy a.count a.parents.now a.values.now a.up-lease.now a.up-cache.now a.up-messages.now a.down-lease.now a.down-cache.now a.down-messages.now a.accepted.now
+of s = let a = s.args in session_by a.count a.parents.now a.values.now a.up-lease.now a.up-cache.now a.up_messages.now a.down-lease.now a.down-cache.now a.down_messages.now a.accepted.now
 
 abbrev due : tie.Start → Request
-due s = requestOf s.args.x s.args.act
+due s = request_of s.args.x s.args.act
 
 -- past the tests
 module _ (e : tie.Else1) where
@@ -42,10 +42,10 @@ module _ (e : tie.Else1) where
   may = ready (of start) start.pre.holds start.args.x (sym e.before.early-refusal.ensures ∙ e.if1.left)
 
   ready-due : Ready (of start) (node_of (due start))
-  ready-due = rw (node-of start.args.x start.args.act) may
+  ready-due = rw (node_of_lem start.args.x start.args.act) may
 
   place : start.args.x < 256
-  place = omega (arith, may.inside, may.holds.tree-in-rule.few)
+  place = omega (arith, may.inside, may.holds.tree_in_rule.few)
 
 -- what was walked
 module _ (w : tie.After-walk) where
@@ -62,16 +62,16 @@ module _ (w : tie.After-walk) where
   abbrev numbers : List ℕ
   numbers = w.walk.last.1.1.1.1.1.1.1.1.1.1.1.1.0
 
-  went : Walked began.args.act (view (begunOf (of began) began.args.x began.args.act)) began.args.x w.walk.result.sum (trace began.args.trace.now 0) (trace numbers w.walk.result.len)
+  went : Walked began.args.act (view (begun_of (of began) began.args.x began.args.act)) began.args.x w.walk.result.sum (trace began.args.trace.now 0) (trace numbers w.walk.result.len)
   went = rw begin.begin.ensures.0 at w.walk.ensures
 
   sums : w.walk.result.sum ≡ (says sum (of began) (due began)).sum
-  sums = went.sums ∙ ap (λ (q : Said). q.sum) (says-walked (of began) began.args.x began.args.act)
+  sums = went.sums ∙ ap (λ (q : Said). q.sum) (says_walked (of began) began.args.x began.args.act)
 
   said : Spoken (of began) (due began) numbers w.walk.result.len
   said =
       spoken (of began) (due began) began.args.trace.now numbers w.walk.result.len began.pre.typed begin.begin.ensures.1 (ready-due tests) went.room
-      (went.logs ∙ ap (λ (q : Said). pushedAll q.log (trace began.args.trace.now 0)) (says-walked (of began) began.args.x began.args.act))
+      (went.logs ∙ ap (λ (q : Said). pushed_all q.log (trace began.args.trace.now 0)) (says_walked (of began) began.args.x began.args.act))
 
 -- what was answered and logged
 module _ (l : tie.After-log) where
@@ -84,11 +84,11 @@ module _ (l : tie.After-log) where
   ended : Ready (of first) (node_of (due first))
   ended = ready-due (tests there)
 
-  told : l.log.result ≡ loggedOf (length first.args.log.now) first.args.place (says sum (of first) (due first)).log
-  told = l.log.ensures.0 ∙ ap (loggedOf (length first.args.log.now) first.args.place) (said there).holds
+  told : l.log.result ≡ logged_of (length first.args.log.now) first.args.place (says sum (of first) (due first)).log
+  told = l.log.ensures.0 ∙ ap (logged_of (length first.args.log.now) first.args.place) (said there).holds
 
-  logs : l.log.last.0 ≡ logAfterAll first.args.log.now first.args.place (says sum (of first) (due first)).log
-  logs = l.log.ensures.1 ∙ ap (logAfterAll first.args.log.now first.args.place) (said there).holds
+  logs : l.log.last.0 ≡ log_after_all first.args.log.now first.args.place (says sum (of first) (due first)).log
+  logs = l.log.ensures.1 ∙ ap (log_after_all first.args.log.now first.args.place) (said there).holds
 
 -- there was room
 abbrev logged : tie.After-known-told → tie.After-log
@@ -108,9 +108,9 @@ returns : tie.Need-returns
 returns c =
     let j = c.before.before in
     let s = j.before.before.before in
-    let n = j.early-refusal.ensures ∙ ap (earlyRefusal s.args.count s.args.accepted.now) (sym (node-of s.args.x s.args.act)) in
-    let e = ends-early (of s) (due s) s.args.log.now s.args.place s.requires.holds j.early-refusal.result n c.before.if1.true in
-    (refused-in-place (of s) (of s) _ _ c.refused.ensures refl e.0, e.1)
+    let n = j.early-refusal.ensures ∙ ap (early_refusal s.args.count s.args.accepted.now) (sym (node_of_lem s.args.x s.args.act)) in
+    let e = ends_early (of s) (due s) s.args.log.now s.args.place s.requires.holds j.early-refusal.result n c.before.if1.true in
+    (refused_in_place (of s) (of s) _ _ c.refused.ensures refl e.0, e.1)
 
 mul-held : tie.Need-overflow-mul-held
 mul-held c = omega (arith, place c)
@@ -119,7 +119,7 @@ element-copy-out-held : tie.Need-element-copy-out-held
 element-copy-out-held c = omega (arith, place c)
 
 begin-requires : tie.Need-begin-requires
-begin-requires c κs = let e = c.before.before in (place e, (start e).requires.typed.values-long)
+begin-requires c κs = let e = c.before.before in (place e, (start e).requires.typed.values_long)
 
 walk-requires : tie.Need-walk-requires
 walk-requires c κs =
@@ -156,14 +156,14 @@ returns-2 c =
     let b = begin (there l) in
     let same = to_z-of_z {w = w32} {z = get_or s.args.values.now s.args.x (pos 0)} (record { sfits = b.before.before.held.given }) in
     let back = ap (set b.begin.last.1.1.0 s.args.x) same ∙ ap (λ (vs : List ℤ). set vs s.args.x (get_or s.args.values.now s.args.x (pos 0))) b.begin.ensures.0 ∙ restored s.args.act s.args.x s.args.values.now in
-    let e = ends-full (of s) (due s) s.args.log.now s.args.place (ended l) (said (there l)).fit _ (told l) _ (logs l) c.before.enum_told.given.1 in
-    (refused-in-place (of s) _ 9 _ c.refused2.ensures (ap (λ (vs : List ℤ). record { tree = (of s).tree; values = vs; up = (of s).up; down = (of s).down; accepted = (of s).accepted }) back) e.0, e.1)
+    let e = ends_full (of s) (due s) s.args.log.now s.args.place (ended l) (said (there l)).fit _ (told l) _ (logs l) c.before.enum_told.given.1 in
+    (refused_in_place (of s) _ 9 _ c.refused2.ensures (ap (λ (vs : List ℤ). record { tree = (of s).tree; values = vs; up = (of s).up; down = (of s).down; accepted = (of s).accepted }) back) e.0, e.1)
 
 apply-requires : tie.Need-apply-requires
 apply-requires c κs =
     let l = logged c.before.before.before.before.before.before.before in
     let s = first l in
-    ((said (there l)).few, counts-paid (of s) s.pre.holds s.pre.typed.up-long.counts s.pre.typed.down-long.counts)
+    ((said (there l)).few, counts_paid (of s) s.pre.holds s.pre.typed.up_long.counts s.pre.typed.down_long.counts)
 
 settle-requires : tie.Need-settle-requires
 settle-requires c κs =
@@ -188,8 +188,8 @@ returns-3 c =
     let l = logged k in
     let s = first l in
     let u = c.before in
-    ends-well (of s) (due s) s.args.log.now s.args.place (ended l) (said (there l)).fit _ (told l) _ (logs l) _ _ _ _
-    (handed-on (there l).walk.result.sum c.struct_told.given.0.1 ∙ sums (there l))
+    ends_well (of s) (due s) s.args.log.now s.args.place (ended l) (said (there l)).fit _ (told l) _ (logs l) _ _ _ _
+    (handed_on (there l).walk.result.sum c.struct_told.given.0.1 ∙ sums (there l))
     (omega (arith, (said (there l)).long))
     k.before.end.given.1
     (settled (of s) s.args.x _ _ a.apply.ensures s.args.act (begin (there l)).begin.ensures.0 (said (there l)).holds u.settle.ensures.0 u.settle.ensures.1)

@@ -11,8 +11,8 @@ use borrow.Fn.Kinds.{In}
 use borrow.Fn.PlainCycle.{Measures, is, falls, and}
 use Rattle.mechanism.specs.Views.{view_of}
 use Rattle.trace.specs.inner.Traces as traces
-use Rattle.messages.proofs.Parts.{handed-on}
-use Rattle.walk.proofs.Sends.{both_small, told_back, adds-fits, told_none, sends-fits, spreading-on, told-last, told_more, Standing, start_fits, partly_none, partly-next, stand, telling, placed, spread-all, spread_none}
+use Rattle.messages.proofs.Parts.{handed_on}
+use Rattle.walk.proofs.Sends.{both_small, told_back, adds_fits, told_none, sends_fits, spreading_on, told_last, told_more, Standing, start_fits, partly_none, partly_next, stand, telling, placed, spread_all, spread_none}
 use Rattle.aggregate.proofs.spread.spread.Reads as spread
 use Rattle.aggregate.proofs.spread.spread.Kinds as spread-kinds
 use Rattle.aggregate.proofs.spread.+spread_tell.Lts-spread as spread-lts
@@ -98,7 +98,7 @@ spread-value-requires t c κs = search rules
 
 spread-plus-requires : (t : ℕ) → spread-lts.Need-plus-requires (spread-calls t) (spread_at t) spread.Post spread-Inv-loop spread-μ-loop
 spread-plus-requires t c κs =
-    rw (handed-on c.value.result c.value.type-inv, to_z-of_z c.before.ranges.told, c.value.ensures) (start_fits c.before.requires.1)
+    rw (handed_on c.value.result c.value.type-inv, to_z-of_z c.before.ranges.told, c.value.ensures) (start_fits c.before.requires.1)
 
 spread-returns : (t : ℕ) → spread-lts.Need-returns (spread-calls t) (spread_at t) spread.Post spread-Inv-loop spread-μ-loop
 spread-returns t c = spread_none c.if1.true
@@ -110,7 +110,7 @@ spread-loop-holds : (t : ℕ) → spread-lts.Need-loop-init (spread-calls t) (sp
 spread-loop-holds t c =
     let p = c.before.before in
     stand c.first.ensures
-    (partly_none (handed-on p.plus.result p.plus.type-inv ∙ rw (handed-on p.before.value.result p.before.value.type-inv, p.before.value.ensures) at p.plus.ensures))
+    (partly_none (handed_on p.plus.result p.plus.type-inv ∙ rw (handed_on p.before.value.result p.before.value.type-inv, p.before.value.ensures) at p.plus.ensures))
 
 spread-turn-requires : (t : ℕ) → spread-lts.Need-turn-requires (spread-calls t) (spread_at t) spread.Post spread-Inv-loop spread-μ-loop
 spread-turn-requires t c κs = search rules
@@ -136,12 +136,12 @@ spread-loop-again : (t : ℕ) → spread-lts.Need-loop-preserved (spread-calls t
 spread-loop-again t c =
     let l = c.before.before.before.before.before.before in
     stand c.next.ensures
-    (partly-next c.before.before.before.before.turn.ensures l.loop.invariant.partly (rw (handed-on c.before.before.tell.result.sum c.before.struct_told.given.0.1) c.before.before.tell.ensures))
+    (partly_next c.before.before.before.before.turn.ensures l.loop.invariant.partly (rw (handed_on c.before.before.tell.result.sum c.before.struct_told.given.0.1) c.before.before.tell.ensures))
 
 spread-returns-2 : (t : ℕ) → spread-lts.Need-returns-2 (spread-calls t) (spread_at t) spread.Post spread-Inv-loop spread-μ-loop
 spread-returns-2 t c =
     let s = c.before.before.before.before.before.before in
-    rw (to_z-of_z s.ranges.told) at (spread-all c.before.before.before.if1.false c.loop-test.false c.before.loop.invariant)
+    rw (to_z-of_z s.ranges.told) at (spread_all c.before.before.before.if1.false c.loop-test.false c.before.loop.invariant)
 
 tell-returns : (t : ℕ) → tell-lts.Need-returns (tell-calls t) (tell-at t) tell.Post
 tell-returns t c = rw (to_z-of_z c.before.ranges.sum) (told_back c.if1.true)
@@ -160,8 +160,8 @@ tell-plus-requires t c κs =
     let e = c.before.before.before in
     let s = e.before in
     let k = c.before.before.cache in
-    rw (to_z-of_z s.ranges.sum, handed-on c.known.result c.known.type-inv)
-    (adds-fits s.requires.1 e.if1.false (rw (c.before.lease.ensures, handed-on k.result k.type-inv, k.ensures) at c.known.ensures))
+    rw (to_z-of_z s.ranges.sum, handed_on c.known.result c.known.type-inv)
+    (adds_fits s.requires.1 e.if1.false (rw (c.before.lease.ensures, handed_on k.result k.type-inv, k.ensures) at c.known.ensures))
 
 tell-lease-requires-2 : (t : ℕ) → tell-lts.Need-lease-requires-2 (tell-calls t) (tell-at t) tell.Post
 tell-lease-requires-2 t c κs = both_small c.before.before.before.before.before.requires.1
@@ -172,9 +172,9 @@ tell-returns-2 t c =
     let e = p.before.before.before.before in
     let s = e.before in
     let k = p.before.before.before.cache in
-    rw (handed-on p.plus.result p.plus.type-inv)
-    (told_none s.requires.1 e.if1.false (rw (p.before.before.lease.ensures, handed-on k.result k.type-inv, k.ensures) at p.before.known.ensures)
-    (rw (to_z-of_z s.ranges.sum, handed-on p.before.known.result p.before.known.type-inv) at p.plus.ensures) c.before.lease2.ensures c.if2.true)
+    rw (handed_on p.plus.result p.plus.type-inv)
+    (told_none s.requires.1 e.if1.false (rw (p.before.before.lease.ensures, handed_on k.result k.type-inv, k.ensures) at p.before.known.ensures)
+    (rw (to_z-of_z s.ranges.sum, handed_on p.before.known.result p.before.known.type-inv) at p.plus.ensures) c.before.lease2.ensures c.if2.true)
 
 tell-cache-requires-2 : (t : ℕ) → tell-lts.Need-cache-requires-2 (tell-calls t) (tell-at t) tell.Post
 tell-cache-requires-2 t c κs = both_small c.before.before.before.before.before.before.before.requires.1
@@ -184,7 +184,7 @@ tell-plus-requires-2 t c κs =
     let f = c.before in
     let e = f.before.before.before.before.before.before in
     let s = e.before in
-    rw (to_z-of_z s.ranges.sum, handed-on c.cache2.result c.cache2.type-inv) (sends-fits s.requires.1 e.if1.false f.before.lease2.ensures f.if2.false c.cache2.ensures)
+    rw (to_z-of_z s.ranges.sum, handed_on c.cache2.result c.cache2.type-inv) (sends_fits s.requires.1 e.if1.false f.before.lease2.ensures f.if2.false c.cache2.ensures)
 
 tell-byte-requires : (t : ℕ) → tell-lts.Need-byte-requires (tell-calls t) (tell-at t) tell.Post
 tell-byte-requires t c κs = (both_small c.before.before.before.before.before.before.before.before.before.before.requires.1).0
@@ -203,8 +203,8 @@ tell-spread-requires t c κs =
     let s = e.before in
     let b = n.before.cache2 in (
       omega arith,
-      rw (handed-on n.plus2.result n.plus2.type-inv) (spreading-on s.requires.1 e.if1.false f.before.lease2.ensures f.if2.false b.ensures
-          (rw (to_z-of_z s.ranges.sum, handed-on b.result b.type-inv) at n.plus2.ensures)),
+      rw (handed_on n.plus2.result n.plus2.type-inv) (spreading_on s.requires.1 e.if1.false f.before.lease2.ensures f.if2.false b.ensures
+          (rw (to_z-of_z s.ranges.sum, handed_on b.result b.type-inv) at n.plus2.ensures)),
     )
 
 tell-byte-requires-3 : (t : ℕ) → tell-lts.Need-byte-requires-3 (tell-calls t) (tell-at t) tell.Post
@@ -228,12 +228,12 @@ tell-returns-3 t c =
     let s = e.before in
     let b = n.before.cache2 in
     let a = k.before.before.cache in
-    let p = handed-on n.plus2.result n.plus2.type-inv in
-    rw (handed-on m.plus.result m.plus.type-inv)
-    (told-last s.requires.1 e.if1.false f.before.lease2.ensures f.if2.false b.ensures
-    (rw (to_z-of_z s.ranges.sum, handed-on b.result b.type-inv) at n.plus2.ensures)
-    (rw (k.before.lease.ensures, handed-on a.result a.type-inv, a.ensures) at k.known.ensures)
-    (rw (to_z-of_z s.ranges.sum, handed-on k.known.result k.known.type-inv) at m.plus.ensures)
+    let p = handed_on n.plus2.result n.plus2.type-inv in
+    rw (handed_on m.plus.result m.plus.type-inv)
+    (told_last s.requires.1 e.if1.false f.before.lease2.ensures f.if2.false b.ensures
+    (rw (to_z-of_z s.ranges.sum, handed_on b.result b.type-inv) at n.plus2.ensures)
+    (rw (k.before.lease.ensures, handed_on a.result a.type-inv, a.ensures) at k.known.ensures)
+    (rw (to_z-of_z s.ranges.sum, handed_on k.known.result k.known.type-inv) at m.plus.ensures)
     (rw (h.before.before.byte.ensures, h.before.byte2.ensures, p) at h.push.ensures)
     (rw p at g.spread.ensures)
     c.before.before.before.before.if3.true
@@ -251,12 +251,12 @@ tell-returns-4 t c =
     let s = e.before in
     let b = n.before.cache2 in
     let a = k.before.before.cache in
-    let p = handed-on n.plus2.result n.plus2.type-inv in
-    rw (handed-on m.plus.result m.plus.type-inv)
+    let p = handed_on n.plus2.result n.plus2.type-inv in
+    rw (handed_on m.plus.result m.plus.type-inv)
     (told_more s.requires.1 e.if1.false f.before.lease2.ensures f.if2.false b.ensures
-    (rw (to_z-of_z s.ranges.sum, handed-on b.result b.type-inv) at n.plus2.ensures)
-    (rw (k.before.lease.ensures, handed-on a.result a.type-inv, a.ensures) at k.known.ensures)
-    (rw (to_z-of_z s.ranges.sum, handed-on k.known.result k.known.type-inv) at m.plus.ensures)
+    (rw (to_z-of_z s.ranges.sum, handed_on b.result b.type-inv) at n.plus2.ensures)
+    (rw (k.before.lease.ensures, handed_on a.result a.type-inv, a.ensures) at k.known.ensures)
+    (rw (to_z-of_z s.ranges.sum, handed_on k.known.result k.known.type-inv) at m.plus.ensures)
     (rw (h.before.before.byte.ensures, h.before.byte2.ensures, p) at h.push.ensures)
     (rw p at g.spread.ensures)
     c.if3.false)

@@ -6,7 +6,7 @@ use native.Mathlib.Omega.{arith}
 use borrow.Author.Rules.{rules}
 use Rattle.session.specs.Holding.{pair_at}
 use Rattle.tree.proofs.Turns.{turn_inside}
-use Rattle.walk.proofs.Silence.{Hushed, hushed-first, hushed-next, hushed-place, hushed-all}
+use Rattle.walk.proofs.Silence.{Hushed, hushed_first, hushed_next, hushed_place, hushed_all}
 use Rattle.aggregate.proofs.spread.is_silent.Statement.{statement}
 use Rattle.aggregate.proofs.spread.is_silent.Tie as tie
 
@@ -20,7 +20,7 @@ first-requires : tie.Need-first-requires invariant-loop decreases-loop
 first-requires c κs = search rules
 
 loop-holds : tie.Need-loop-init invariant-loop decreases-loop
-loop-holds c = hushed-first c.first.ensures
+loop-holds c = hushed_first c.first.ensures
 
 turn-requires : tie.Need-turn-requires invariant-loop decreases-loop
 turn-requires c κs = search rules
@@ -38,7 +38,7 @@ next-requires : tie.Need-next-requires invariant-loop decreases-loop
 next-requires c κs =
     let l = c.before.before.before.before in
     let s = l.before.before in
-    hushed-place s.requires.1.0 s.requires.0 s.requires.1.1 (omega arith) l.loop.invariant
+    hushed_place s.requires.1.0 s.requires.0 s.requires.1.1 (omega arith) l.loop.invariant
 
 loop-less : tie.Need-loop-smaller invariant-loop decreases-loop
 loop-less c = omega (arith, c.next.ensures.from)
@@ -46,10 +46,10 @@ loop-less c = omega (arith, c.next.ensures.from)
 loop-again : tie.Need-loop-preserved invariant-loop decreases-loop
 loop-again c =
     let w = c.before.before in
-    hushed-next w.before.before.before.loop.invariant w.before.turn.ensures (sym w.lease.ensures ∙ c.before.if1.false) c.next.ensures
+    hushed_next w.before.before.before.loop.invariant w.before.turn.ensures (sym w.lease.ensures ∙ c.before.if1.false) c.next.ensures
 
 returns-2 : tie.Need-returns-2 invariant-loop decreases-loop
-returns-2 c = λ e. hushed-all (omega arith) c.before.loop.invariant
+returns-2 c = λ e. hushed_all (omega arith) c.before.loop.invariant
 
 pub is-silent-spec : {M : Type 1} → statement M
 is-silent-spec =

@@ -8,24 +8,24 @@ use borrow.Author.Rules.{rules}
 use Rattle.requests.specs.Reading.{item_at}
 use Rattle.requests.specs.declared.Request.{Request}
 use Rattle.requests.specs.declared.Item.TheVariants.{Found}
-use Rattle.messages.proofs.Parts.{handed-on}
-use Rattle.session.specs.Parts.{sessionBy}
+use Rattle.messages.proofs.Parts.{handed_on}
+use Rattle.session.specs.Parts.{session_by}
 use Rattle.session.specs.declared.Session.{Session}
-use Rattle.aggregate.specs.inner.Acts.{requestOf, servedAs}
+use Rattle.aggregate.specs.inner.Acts.{request_of, served_as}
 use Rattle.aggregate.specs.Running.{running}
-use Rattle.aggregate.specs.Serving.{servedOf, logOf}
+use Rattle.aggregate.specs.Serving.{served_of, log_of}
 use Rattle.aggregate.specs.declared.Totals.{Totals}
-use Rattle.aggregate.proofs.Underway.{Underway, underway-first, underway-next, placed-now, addable, log-kept, never-short, ends-refused, ends-all}
+use Rattle.aggregate.proofs.Underway.{Underway, underway_first, underway_next, placed_now, addable, log_kept, never_short, ends_refused, ends_all}
 use Rattle.aggregate.proofs.turns.each.Statement.{statement}
 use Rattle.aggregate.proofs.turns.each.Tie as tie
 
 abbrev invariant-loop : tie.invariant-loop
-invariant-loop nodes parents first next values₀ up-lease₀ up-cache₀ up-messages₀ down-lease₀ down-cache₀ down-messages₀ accepted₀ list count from answers₀ log₀ place later-up₀ later-down₀ trace₀ at₀ totals₀ values up-lease up-cache up-messages down-lease down-cache down-messages accepted answers log later-up later-down trace at totals =
-    Underway (sessionBy nodes parents values₀ up-lease₀ up-cache₀ up-messages₀ down-lease₀ down-cache₀ down-messages₀ accepted₀) list answers₀ log₀ place count at
-    (running totals (sessionBy nodes parents values up-lease up-cache up-messages down-lease down-cache down-messages accepted) answers log)
+invariant-loop nodes parents first next values₀ up-lease₀ up-cache₀ up-messages₀ down-lease₀ down-cache₀ down-messages₀ accepted₀ list count from answers₀ log₀ place later-up₀ later-down₀ trace₀ at₀ totals₀ values up-lease up-cache up_messages down-lease down-cache down_messages accepted answers log later-up later-down trace at totals =
+    Underway (session_by nodes parents values₀ up-lease₀ up-cache₀ up-messages₀ down-lease₀ down-cache₀ down-messages₀ accepted₀) list answers₀ log₀ place count at
+    (running totals (session_by nodes parents values up-lease up-cache up_messages down-lease down-cache down_messages accepted) answers log)
 
 abbrev decreases-loop : tie.decreases-loop
-decreases-loop nodes parents first next values₀ up-lease₀ up-cache₀ up-messages₀ down-lease₀ down-cache₀ down-messages₀ accepted₀ list count from answers₀ log₀ place later-up₀ later-down₀ trace₀ at₀ totals₀ values up-lease up-cache up-messages down-lease down-cache down-messages accepted answers log later-up later-down trace at totals = count - totals.requests
+decreases-loop nodes parents first next values₀ up-lease₀ up-cache₀ up-messages₀ down-lease₀ down-cache₀ down-messages₀ accepted₀ list count from answers₀ log₀ place later-up₀ later-down₀ trace₀ at₀ totals₀ values up-lease up-cache up_messages down-lease down-cache down_messages accepted answers log later-up later-down trace at totals = count - totals.requests
 
 -- where a turn is
 module _ (a : tie.After-request2 invariant-loop decreases-loop) where
@@ -51,30 +51,30 @@ module _ (a : tie.After-request2 invariant-loop decreases-loop) where
   abbrev held : Session
   held =
       let l = turning.loop in
-      sessionBy start.args.nodes start.args.parents.now l.values l.up-lease l.up-cache l.up-messages l.down-lease l.down-cache l.down-messages l.accepted
+      session_by start.args.nodes start.args.parents.now l.values l.up-lease l.up-cache l.up_messages l.down-lease l.down-cache l.down_messages l.accepted
 
-  acted : requestOf a.before.before.before.node-of.result a.before.before.act-of.result ≡ due
-  acted = ap (λ (x : ℕ). requestOf x a.before.before.act-of.result) a.before.before.before.node-of.ensures ∙ a.before.before.act-of.ensures
+  acted : request_of a.before.before.before.node_of_lem.result a.before.before.act-of.result ≡ due
+  acted = ap (λ (x : ℕ). request_of x a.before.before.act-of.result) a.before.before.before.node_of_lem.ensures ∙ a.before.before.act-of.ensures
 
   -- what was left
   abbrev left : Session
   left =
       let l = a.request2.last in
-      sessionBy start.args.nodes start.args.parents.now l.1.1.1.1.0 l.1.1.1.1.1.0 l.1.1.1.1.1.1.0 l.1.1.1.1.1.1.1.0 l.1.1.1.1.1.1.1.1.0 l.1.1.1.1.1.1.1.1.1.0 l.1.1.1.1.1.1.1.1.1.1.0 l.1.1.1.1.1.1.1.1.1.1.1.0
+      session_by start.args.nodes start.args.parents.now l.1.1.1.1.0 l.1.1.1.1.1.0 l.1.1.1.1.1.1.0 l.1.1.1.1.1.1.1.0 l.1.1.1.1.1.1.1.1.0 l.1.1.1.1.1.1.1.1.1.0 l.1.1.1.1.1.1.1.1.1.1.0 l.1.1.1.1.1.1.1.1.1.1.1.0
 
   abbrev log : List ℕ
   log = a.request2.last.1.1.1.1.1.1.1.1.1.1.1.1.1.1.1.1.1.0
 
-  served : servedAs a.request2.result left ≡ servedOf held due (length turning.loop.log) turning.loop.totals.next
-  served = a.request2.ensures.0 ∙ ap (λ (r : Request). servedOf held r (length turning.loop.log) turning.loop.totals.next) acted
+  served : served_as a.request2.result left ≡ served_of held due (length turning.loop.log) turning.loop.totals.next
+  served = a.request2.ensures.0 ∙ ap (λ (r : Request). served_of held r (length turning.loop.log) turning.loop.totals.next) acted
 
-  logged : log ≡ logOf held due turning.loop.log turning.loop.totals.next
-  logged = a.request2.ensures.1 ∙ ap (λ (r : Request). logOf held r turning.loop.log turning.loop.totals.next) acted
+  logged : log ≡ log_of held due turning.loop.log turning.loop.totals.next
+  logged = a.request2.ensures.1 ∙ ap (λ (r : Request). log_of held r turning.loop.log turning.loop.totals.next) acted
 
 loop-holds : tie.Need-loop-init invariant-loop decreases-loop
 loop-holds c =
     let s = c.before.before in
-    underway-first _ s.args.list.now s.args.answers.now s.args.log.now s.args.place _ _ s.requires.0.typed s.requires.1
+    underway_first _ s.args.list.now s.args.answers.now s.args.log.now s.args.place _ _ s.requires.0.typed s.requires.1
 
 request-at-requires : tie.Need-request-at-requires invariant-loop decreases-loop
 request-at-requires c κs = tt
@@ -86,15 +86,15 @@ enum_told : tie.Need-enum-told invariant-loop decreases-loop
 enum_told c = search rules
 
 same_length : tie.Need-same-length invariant-loop decreases-loop
-same_length c = c.before.before.before.before.before.loop.invariant.answers-long
+same_length c = c.before.before.before.before.before.loop.invariant.answers_long
 
 same-length-2 : tie.Need-same-length-2 invariant-loop decreases-loop
-same-length-2 c = c.before.before.before.before.before.loop.invariant.log-long
+same-length-2 c = c.before.before.before.before.before.loop.invariant.log_long
 
 returns : tie.Need-returns invariant-loop decreases-loop
 returns c =
     let r = c.before.before in
-    absurd (never-short r.before.before.before.loop.invariant r.before.if1.true (sym r.request-at.ensures ∙ c.enum_told.given.1))
+    absurd (never_short r.before.before.before.loop.invariant r.before.if1.true (sym r.request-at.ensures ∙ c.enum_told.given.1))
 
 node-of-requires : tie.Need-node-of-requires invariant-loop decreases-loop
 node-of-requires c κs = tt
@@ -108,18 +108,18 @@ request-requires c κs =
     record { typed = t.loop.invariant.typed; holds = t.loop.invariant.holds; linked = t.before.before.before.requires.0.linked }
 
 same-length-3 : tie.Need-same-length-3 invariant-loop decreases-loop
-same-length-3 c = (turning c.before.before.before.before).loop.inv.answers-long
+same-length-3 c = (turning c.before.before.before.before).loop.inv.answers_long
 
 same-length-4 : tie.Need-same-length-4 invariant-loop decreases-loop
-same-length-4 c = let a = c.before.before.before.before in log-kept (turning a).loop.invariant (due a) (logged a)
+same-length-4 c = let a = c.before.before.before.before in log_kept (turning a).loop.invariant (due a) (logged a)
 
 returns-2 : tie.Need-returns-2 invariant-loop decreases-loop
 returns-2 c =
     let a = c.before.before.before.before in
-    ends-refused (turning a).loop.invariant (on a).if1.true (found a) (served a) (logged a) c.if2.true
+    ends_refused (turning a).loop.invariant (on a).if1.true (found a) (served a) (logged a) c.if2.true
 
 store-requires : tie.Need-store-requires invariant-loop decreases-loop
-store-requires c κs = let a = c.before.before.before.before.before.before in placed-now (turning a).loop.invariant (on a).if1.true (found a)
+store-requires c κs = let a = c.before.before.before.before.before.before in placed_now (turning a).loop.invariant (on a).if1.true (found a)
 
 added-requires : tie.Need-added-requires invariant-loop decreases-loop
 added-requires c κs =
@@ -136,17 +136,17 @@ loop-again : tie.Need-loop-preserved invariant-loop decreases-loop
 loop-again c =
     let a = c.before.before.before.before.before.before.before.before.before in
     let k = c.before.before in
-    let answered = handed-on a.request2.result.answer k.before.struct_told.given.1.0.1 in
-    underway-next (turning a).loop.invariant (on a).if1.true (found a) (served a) (logged a) k.before.before.before.if2.false k.store.ensures.0 c.added.ensures answered k.store.ensures.1
+    let answered = handed_on a.request2.result.answer k.before.struct_told.given.1.0.1 in
+    underway_next (turning a).loop.invariant (on a).if1.true (found a) (served a) (logged a) k.before.before.before.if2.false k.store.ensures.0 c.added.ensures answered k.store.ensures.1
 
 same-length-5 : tie.Need-same-length-5 invariant-loop decreases-loop
-same-length-5 c = c.before.before.loop.invariant.answers-long
+same-length-5 c = c.before.before.loop.invariant.answers_long
 
 same-length-6 : tie.Need-same-length-6 invariant-loop decreases-loop
-same-length-6 c = c.before.before.loop.invariant.log-long
+same-length-6 c = c.before.before.loop.invariant.log_long
 
 returns-3 : tie.Need-returns-3 invariant-loop decreases-loop
-returns-3 c = ends-all c.before.before.loop.invariant c.if1.false
+returns-3 c = ends_all c.before.before.loop.invariant c.if1.false
 
 pub each_spec : {M : Type 1} → statement M
 each_spec =

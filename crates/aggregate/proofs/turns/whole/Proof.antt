@@ -5,15 +5,15 @@ use borrow.Author.Rules.{rules}
 use Rattle.session.specs.declared.Session.{Session}
 use Rattle.session.proofs.Typing.{typed}
 use Rattle.aggregate.specs.Running.{ended_as}
-use Rattle.aggregate.proofs.Wholly.{Runnable, runnable-by, ends}
+use Rattle.aggregate.proofs.Wholly.{Runnable, runnable_by, ends}
 use Rattle.aggregate.proofs.turns.whole.Statement.{statement}
 use Rattle.aggregate.proofs.turns.whole.Tie as tie
 
 starts : (s : tie.Start) → Runnable s.args.session s.args.list.now (length s.args.answers.now)
-starts s = runnable-by s.args.session s.args.list.now _ s.requires.accepted
+starts s = runnable_by s.args.session s.args.list.now _ s.requires.accepted
 
 of-requires : tie.Need-of-requires
-of-requires c κs = let r = (starts c.before.before.before.before.before).holds.tree-in-rule in (r.some, (r.few, r.grown))
+of-requires c κs = let r = (starts c.before.before.before.before.before).holds.tree_in_rule in (r.some, (r.few, r.grown))
 
 each-requires : tie.Need-each-requires
 each-requires c κs =

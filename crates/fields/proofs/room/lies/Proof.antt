@@ -2,7 +2,7 @@
 use mathlib.Core.Path.{sym}
 use native.Mathlib.Omega.{arith}
 use borrow.Author.Rules.{rules}
-use Rattle.fields.proofs.Rooms.{too_wide, past_end, by-rest}
+use Rattle.fields.proofs.Rooms.{too_wide, past_end, by_rest}
 use Rattle.fields.proofs.room.lies.Statement.{statement}
 use Rattle.fields.proofs.room.lies.Tie as tie
 
@@ -16,7 +16,7 @@ returns-2 : tie.Need-returns-2
 returns-2 c = sym (past_end _ _ _ (omega arith))
 
 returns-3 : tie.Need-returns-3
-returns-3 c = rw c.before.before.usable-bits.ensures (by-rest _ _ _ (omega arith) (omega arith))
+returns-3 c = rw c.before.before.usable-bits.ensures (by_rest _ _ _ (omega arith) (omega arith))
 
 pub lies-spec : {M : Type 1} → statement M
 lies-spec = tie.close (tie.spec usable-bits-requires returns returns-2 returns-3)

@@ -3,8 +3,8 @@ use mathlib.Core.Path.{◌≡◌, ◌∙◌, ap, refl}
 use Prim.Native.Nat.{◌≤◌, ◌-◌, ◌+◌, zero-le}
 use native.Mathlib.Omega.{arith}
 use Rattle.fields.specs.Fields.{field}
-use Rattle.fields.proofs.Bits.{bit-lt}
-use Rattle.fields.proofs.Turns.{read-turn, read-room}
+use Rattle.fields.proofs.Bits.{bit_lt}
+use Rattle.fields.proofs.Turns.{read_turn, read_room}
 use Rattle.fields.proofs.span.read.Statement.{statement}
 use Rattle.fields.proofs.span.read.Tie as tie
 
@@ -21,7 +21,7 @@ loop-holds c = (zero-le, refl)
 mul-number : tie.Need-overflow-mul-number invariant-loop decreases-loop
 mul-number c =
     let a = c.before.before.before.args in
-    omega (arith, read-room a.bytes.now a.place c.before.loop.i (omega arith))
+    omega (arith, read_room a.bytes.now a.place c.before.loop.i (omega arith))
 
 add_read : tie.Need-overflow-add-read invariant-loop decreases-loop
 add_read c = omega arith
@@ -33,7 +33,7 @@ add-number : tie.Need-overflow-add-number invariant-loop decreases-loop
 add-number c =
     let a = c.before.before.before.before.args in
     let i = c.before.before.loop.i in
-    omega (arith, read-room a.bytes.now a.place i (omega arith), bit-lt a.bytes.now (a.place + i), c.read.ensures)
+    omega (arith, read_room a.bytes.now a.place i (omega arith), bit_lt a.bytes.now (a.place + i), c.read.ensures)
 
 add-i : tie.Need-overflow-add-i invariant-loop decreases-loop
 add-i c = omega arith
@@ -44,7 +44,7 @@ loop-less c = omega arith
 loop-again : tie.Need-loop-preserved invariant-loop decreases-loop
 loop-again c =
     let a = c.before.before.before.before.args in
-    (omega arith, omega (arith, c.read.ensures, read-turn a.bytes.now a.place c.before.before.loop.i))
+    (omega arith, omega (arith, c.read.ensures, read_turn a.bytes.now a.place c.before.before.loop.i))
 
 returns : tie.Need-returns invariant-loop decreases-loop
 returns c =

@@ -4,15 +4,15 @@ use Prim.Native.Nat.{◌≤◌}
 use native.Mathlib.Nat.{le_refl}
 use native.Mathlib.Omega.{arith}
 use lib.ListN.{length}
-use Rattle.fields.specs.Fields.{putField}
-use Rattle.fields.proofs.Bits.{length-putBit}
-use Rattle.fields.proofs.Turns.{write-turn}
+use Rattle.fields.specs.Fields.{put_field}
+use Rattle.fields.proofs.Bits.{length-put_bit}
+use Rattle.fields.proofs.Turns.{write_turn}
 use Rattle.fields.proofs.span.write.Statement.{statement}
 use Rattle.fields.proofs.span.write.Tie as tie
 
 abbrev invariant-loop : tie.invariant-loop
 invariant-loop bytes₀ place width value left₀ rest₀ bytes left rest =
-    (left ≤ width) × (length bytes ≡ length bytes₀) × (putField bytes place left rest ≡ putField bytes₀ place width value)
+    (left ≤ width) × (length bytes ≡ length bytes₀) × (put_field bytes place left rest ≡ put_field bytes₀ place width value)
 
 abbrev decreases-loop : tie.decreases-loop
 decreases-loop bytes₀ place width value left₀ rest₀ bytes left rest = left
@@ -40,15 +40,15 @@ loop-again c =
     let p = c.before.before.before.before.before in
     let e = c.before.before.write.ensures in (
       omega arith,
-      ap length e ∙ simp length-putBit p.loop.invariant.1,
-      write-turn p.loop.bytes c.before.before.write.new.0 p.before.before.args.place p.loop.left p.loop.rest (omega arith) e ∙ p.loop.invariant.2,
+      ap length e ∙ simp length-put_bit p.loop.invariant.1,
+      write_turn p.loop.bytes c.before.before.write.new.0 p.before.before.args.place p.loop.left p.loop.rest (omega arith) e ∙ p.loop.invariant.2,
     )
 
 same_length : tie.Need-same-length invariant-loop decreases-loop
 same_length c = c.before.loop.invariant.1
 
 returns : tie.Need-returns invariant-loop decreases-loop
-unfolding putField
+unfolding put_field
 returns c =
     let e : c.before.loop.left ≡ 0 = omega arith in
     rw e at c.before.loop.invariant.2

@@ -1,7 +1,7 @@
 -- `record::holds` meets its contract: a value is tested where there is one.
 use mathlib.Core.Path.{◌∙◌}
 use borrow.Author.Rules.{rules}
-use Rattle.messages.proofs.Parts.{handed-on}
+use Rattle.messages.proofs.Parts.{handed_on}
 use Rattle.messages.proofs.record.holds.Statement.{statement}
 use Rattle.messages.proofs.record.holds.Tie as tie
 
@@ -29,12 +29,12 @@ returns c = search rules
 returns-2 : tie.Need-returns-2
 returns-2 c =
     let m = c.before.before.message.given in
-    c.encodes.ensures ∙ rw (m.1, handed-on m.0.1.1.0 c.before.known-told.given.1.1.0.1)
+    c.encodes.ensures ∙ rw (m.1, handed_on m.0.1.1.0 c.before.known-told.given.1.1.0.1)
 
 returns-3 : tie.Need-returns-3
 returns-3 c =
     let m = c.before.before.message2.given in
-    c.encodes2.ensures ∙ rw (m.1, handed-on m.0.1.1.0 c.before.known-told2.given.1.1.0.1)
+    c.encodes2.ensures ∙ rw (m.1, handed_on m.0.1.1.0 c.before.known-told2.given.1.1.0.1)
 
 returns-4 : tie.Need-returns-4
 returns-4 c = search rules

@@ -2,7 +2,7 @@
 use mathlib.Core.Path.{sym, ap, ◌∙◌}
 use native.Mathlib.Omega.{arith}
 use borrow.Author.Rules.{rules}
-use Rattle.messages.proofs.Parts.{number_in, part-found}
+use Rattle.messages.proofs.Parts.{number_in, part_found}
 use Rattle.messages.proofs.record.part.Statement.{statement}
 use Rattle.messages.proofs.record.part.Tie as tie
 
@@ -19,13 +19,13 @@ returns : tie.Need-returns
 returns c =
     let s = c.before.before.before.before.before.args in
     ap number_in (sym c.before.n.given.1 ∙ c.before.before.before.get.ensures)
-    ∙ part-found s.log.now s.place s.width (omega arith) (omega arith)
+    ∙ part_found s.log.now s.place s.width (omega arith) (omega arith)
 
 returns-2 : tie.Need-returns-2
 returns-2 c =
     let s = c.before.before.before.before.args in
     ap number_in (sym c.enum_told.given.1 ∙ c.before.before.get.ensures)
-    ∙ part-found s.log.now s.place s.width (omega arith) (omega arith)
+    ∙ part_found s.log.now s.place s.width (omega arith) (omega arith)
 
 pub part-spec : {M : Type 1} → statement M
 part-spec = tie.close (tie.spec get-requires enum-known-n enum_told returns returns-2)

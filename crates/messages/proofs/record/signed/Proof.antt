@@ -1,7 +1,7 @@
 -- `record::signed` meets its contract: 40 bits stand for a value.
 use mathlib.Core.Path.{sym, ap, ◌∙◌}
 use borrow.Author.Rules.{rules}
-use Rattle.messages.proofs.Parts.{valueIn, value_found, handed-on}
+use Rattle.messages.proofs.Parts.{value_in, value_found, handed_on}
 use Rattle.messages.proofs.record.signed.Statement.{statement}
 use Rattle.messages.proofs.record.signed.Tie as tie
 
@@ -17,12 +17,12 @@ enum_told c = search rules
 returns : tie.Need-returns
 returns c =
     let s = c.before.before.before.before in
-    handed-on _ c.known-told.given.0.1 ∙ ap valueIn (sym c.before.z.given.1 ∙ c.before.before.before.decode.ensures) ∙ value_found s.args.number s.requires
+    handed_on _ c.known-told.given.0.1 ∙ ap value_in (sym c.before.z.given.1 ∙ c.before.before.before.decode.ensures) ∙ value_found s.args.number s.requires
 
 returns-2 : tie.Need-returns-2
 returns-2 c =
     let s = c.before.before.before in
-    ap valueIn (sym c.enum_told.given.1 ∙ c.before.before.decode.ensures) ∙ value_found s.args.number s.requires
+    ap value_in (sym c.enum_told.given.1 ∙ c.before.before.decode.ensures) ∙ value_found s.args.number s.requires
 
 pub signed-spec : {M : Type 1} → statement M
 signed-spec = tie.close (tie.spec decode-requires enum-known-z enum_told returns returns-2)

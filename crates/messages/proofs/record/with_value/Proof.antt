@@ -8,8 +8,8 @@ use mir.Val.{to_z, of_z}
 use borrow.Author.Rules.{rules}
 use Rattle.twos.specs.Twos.{twos, encoded}
 use Rattle.twos.specs.declared.Encoded.{Encoded}
-use Rattle.messages.proofs.Parts.{behind, value-behind}
-use Rattle.messages.proofs.Widths.{value-lt}
+use Rattle.messages.proofs.Parts.{behind, value_behind}
+use Rattle.messages.proofs.Widths.{value_lt}
 use Rattle.messages.proofs.record.with_value.Statement.{statement}
 use Rattle.messages.proofs.record.with_value.Tie as tie
 
@@ -25,12 +25,12 @@ mul-result c = search rules
 -- the value's number in the sum, and the sum where there was none
 module _ (s : tie.Start) where
   behind-head : (x : Encoded) → x ≡ encoded 40 (to_z w64 (of_z w64 s.args.value)) → behind s.args.head x ≡ s.args.head * 2 ^ 40 + twos 40 s.args.value
-  behind-head x e = rw (e, to_z-of_z s.ranges.value) (value-behind s.args.head s.args.value s.requires.1)
+  behind-head x e = rw (e, to_z-of_z s.ranges.value) (value_behind s.args.head s.args.value s.requires.1)
 
 add-result : tie.Need-overflow-add-result
 add-result c =
     let s = c.before.before.before.before in
-    record { fits = omega (arith, behind-head s _ (sym c.before.n.given.1 ∙ c.before.before.before.encode.ensures), value-lt s.args.value s.requires.1) }
+    record { fits = omega (arith, behind-head s _ (sym c.before.n.given.1 ∙ c.before.before.before.encode.ensures), value_lt s.args.value s.requires.1) }
 
 enum_told : tie.Need-enum-told
 enum_told c = search rules

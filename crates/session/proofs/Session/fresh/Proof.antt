@@ -2,7 +2,7 @@
 use mathlib.Core.Path.{◌≡◌, sym, ◌∙◌}
 use mathlib.Core.Bool.{true}
 use borrow.Author.Rules.{rules}
-use Rattle.session.specs.Starting.{startedOf}
+use Rattle.session.specs.Starting.{started_of}
 use Rattle.session.proofs.Session.fresh.Statement.{statement}
 use Rattle.session.proofs.Session.fresh.Tie as tie
 
@@ -13,17 +13,17 @@ blank-requires : tie.Need-blank-requires
 blank-requires c κs = search rules
 
 returns : tie.Need-returns
-unfolding startedOf
+unfolding started_of
 returns c =
-    let yes : c.before.before.in-rule.result ≡ true = c.before.if1.true in
-    rw (c.blank.ensures, sym c.before.before.in-rule.ensures ∙ yes)
+    let yes : c.before.before.in_rule_lem.result ≡ true = c.before.if1.true in
+    rw (c.blank.ensures, sym c.before.before.in_rule_lem.ensures ∙ yes)
 
 blank-requires-2 : tie.Need-blank-requires-2
 blank-requires-2 c κs = search rules
 
 returns-2 : tie.Need-returns-2
-unfolding startedOf
-returns-2 c = rw (c.blank2.ensures, sym c.before.before.in-rule.ensures ∙ c.before.if1.false)
+unfolding started_of
+returns-2 c = rw (c.blank2.ensures, sym c.before.before.in_rule_lem.ensures ∙ c.before.if1.false)
 
 pub fresh-spec : {M : Type 1} → statement M
 fresh-spec = tie.close (tie.spec in-rule-requires blank-requires returns blank-requires-2 returns-2)

@@ -3,7 +3,7 @@ use mathlib.Core.Path.{sym, ap}
 use native.Mathlib.Omega.{arith}
 use borrow.Author.Rules.{rules}
 use Rattle.table.specs.declared.Reading.{Reading}
-use Rattle.session.proofs.Starts.{loads, loads-not}
+use Rattle.session.proofs.Starts.{loads, loads_not}
 use Rattle.session.proofs.Session.load.Statement.{statement}
 use Rattle.session.proofs.Session.load.Tie as tie
 
@@ -21,7 +21,7 @@ returns c =
 returns-2 : tie.Need-returns-2
 returns-2 c =
     let e = c.before.before.read.ensures in
-    rw e (sym (loads-not _ _ (omega (arith, ap (λ (r : Reading). r.refusal) e))))
+    rw e (sym (loads_not _ _ (omega (arith, ap (λ (r : Reading). r.refusal) e))))
 
 pub load_spec : {M : Type 1} → statement M
 load_spec = tie.close (tie.spec read-requires fresh-requires returns returns-2)

@@ -8,19 +8,19 @@ use mir.Facts.{to_z-of_z}
 use Rattle.tree.specs.inner.Places.{from}
 use Rattle.tree.specs.Every.{every}
 use Rattle.tree.specs.Ranges.{in_range}
-use Rattle.tree.proofs.Every.{from-none, from_more}
-use Rattle.session.specs.inner.Passes.{nearSize}
+use Rattle.tree.proofs.Every.{from_none, from_more}
+use Rattle.session.specs.inner.Passes.{near_size}
 use Rattle.session.proofs.entry.caches.Statement.{statement}
 use Rattle.session.proofs.entry.caches.Tie as tie
 
 abbrev invariant-loop : tie.invariant-loop
-invariant-loop count down sizes cache n good₀ i₀ good i = (1 ≤ i) × (i ≤ count) × (good ≡ every (from 1 (λ j. in_range (nearSize count down (get_or sizes j 0)) (get_or cache j (pos 0)))) i)
+invariant-loop count down sizes cache n good₀ i₀ good i = (1 ≤ i) × (i ≤ count) × (good ≡ every (from 1 (λ j. in_range (near_size count down (get_or sizes j 0)) (get_or cache j (pos 0)))) i)
 
 abbrev decreases-loop : tie.decreases-loop
 decreases-loop count down sizes cache n good₀ i₀ good i = count - i
 
 loop-holds : tie.Need-loop-init invariant-loop decreases-loop
-loop-holds c = (omega arith, omega (arith, c.requires), from-none _ _)
+loop-holds c = (omega arith, omega (arith, c.requires), from_none _ _)
 
 mul-near-size : tie.Need-overflow-mul-near-size invariant-loop decreases-loop
 mul-near-size c = omega arith

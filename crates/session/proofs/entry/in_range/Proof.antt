@@ -8,7 +8,7 @@ use mir.Syntax.{w64}
 use mir.Val.{of_z, to_z}
 use mir.Facts.{to_z-of_z, to_z_pos}
 use borrow.Author.Rules.{rules}
-use Rattle.session.proofs.Limits.{least_fits, below-range, end-left}
+use Rattle.session.proofs.Limits.{least_fits, below_range, end_left}
 use Rattle.session.proofs.entry.in_range.Statement.{statement}
 use Rattle.session.proofs.entry.in_range.Tie as tie
 
@@ -29,12 +29,12 @@ tested : (c : tie.Start) → lt_z (to_z w64 (of_z w64 c.args.z)) (to_z w64 (of_z
 tested c = ap₂ lt_z (to_z-of_z c.ranges.z) (to_z-of_z (mul-if1 c) ∙ ap (λ (z : ℤ). z *ℤ negsuc 2147483647) (nodes c))
 
 returns : tie.Need-returns
-returns c = sym (below-range c.before.args.k c.before.args.z (sym (tested c.before) ∙ c.if1.true))
+returns c = sym (below_range c.before.args.k c.before.args.z (sym (tested c.before) ∙ c.if1.true))
 
 returns-2 : tie.Need-returns-2
 returns-2 c =
     let s = c.before in
-    rw (to_z-of_z s.ranges.z, to_z-of_z (mul-result c), nodes s) (end-left s.args.k s.args.z _ (omega arith) (sym (tested s) ∙ c.if1.false))
+    rw (to_z-of_z s.ranges.z, to_z-of_z (mul-result c), nodes s) (end_left s.args.k s.args.z _ (omega arith) (sym (tested s) ∙ c.if1.false))
 
 pub in-range-spec : {M : Type 1} → statement M
 in-range-spec = tie.close (tie.spec cast-nodes mul-if1 returns mul-result returns-2)

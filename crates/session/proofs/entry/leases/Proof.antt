@@ -6,7 +6,7 @@ use lib.Dec.{leb}
 use lib.ListN.{get_or}
 use Rattle.tree.specs.inner.Places.{from}
 use Rattle.tree.specs.Every.{every}
-use Rattle.tree.proofs.Every.{from-none, from_more}
+use Rattle.tree.proofs.Every.{from_none, from_more}
 use Rattle.session.proofs.entry.leases.Statement.{statement}
 use Rattle.session.proofs.entry.leases.Tie as tie
 
@@ -17,7 +17,7 @@ abbrev decreases-loop : tie.decreases-loop
 decreases-loop end most lease good₀ i₀ good i = end - i
 
 loop-holds : tie.Need-loop-init invariant-loop decreases-loop
-loop-holds c = (omega arith, omega (arith, c.requires), from-none _ _)
+loop-holds c = (omega arith, omega (arith, c.requires), from_none _ _)
 
 element-copy-out-good : tie.Need-element-copy-out-good invariant-loop decreases-loop
 element-copy-out-good c = omega arith

@@ -10,7 +10,7 @@ use mir.Val.{of_z}
 use Rattle.tree.specs.Ranges.{in_range}
 use Rattle.tree.specs.inner.Places.{from}
 use Rattle.tree.specs.Every.{every}
-use Rattle.tree.proofs.Every.{from-none}
+use Rattle.tree.proofs.Every.{from_none}
 use Rattle.session.proofs.Limits.{none_more, zero_test}
 use Rattle.session.proofs.entry.no_caches.Statement.{statement}
 use Rattle.session.proofs.entry.no_caches.Tie as tie
@@ -22,7 +22,7 @@ abbrev decreases-loop : tie.decreases-loop
 decreases-loop first end cache any₀ i₀ any i = end - i
 
 loop-holds : tie.Need-loop-init invariant-loop decreases-loop
-loop-holds c = (omega arith, omega (arith, c.requires), from-none _ _)
+loop-holds c = (omega arith, omega (arith, c.requires), from_none _ _)
 
 mul-any : tie.Need-overflow-mul-any invariant-loop decreases-loop
 mul-any c = omega arith

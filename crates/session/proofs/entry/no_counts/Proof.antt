@@ -6,7 +6,7 @@ use lib.Dec.{eqb}
 use lib.ListN.{get_or}
 use Rattle.tree.specs.inner.Places.{from}
 use Rattle.tree.specs.Every.{every}
-use Rattle.tree.proofs.Every.{from-none}
+use Rattle.tree.proofs.Every.{from_none}
 use Rattle.session.proofs.Limits.{none_more}
 use Rattle.session.proofs.entry.no_counts.Statement.{statement}
 use Rattle.session.proofs.entry.no_counts.Tie as tie
@@ -18,7 +18,7 @@ abbrev decreases-loop : tie.decreases-loop
 decreases-loop first end messages any₀ i₀ any i = end - i
 
 loop-holds : tie.Need-loop-init invariant-loop decreases-loop
-loop-holds c = (omega arith, omega (arith, c.requires), from-none _ _)
+loop-holds c = (omega arith, omega (arith, c.requires), from_none _ _)
 
 mul-any : tie.Need-overflow-mul-any invariant-loop decreases-loop
 mul-any c = omega arith

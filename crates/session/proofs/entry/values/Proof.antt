@@ -8,7 +8,7 @@ use mir.Syntax.{w32}
 use Rattle.tree.specs.inner.Places.{from}
 use Rattle.tree.specs.Every.{every}
 use Rattle.tree.specs.Ranges.{in_range}
-use Rattle.tree.proofs.Every.{from-none, from_more}
+use Rattle.tree.proofs.Every.{from_none, from_more}
 use Rattle.session.specs.inner.Passes.{values}
 use Rattle.session.proofs.Limits.{zero_test}
 use Rattle.session.proofs.entry.values.Statement.{statement}
@@ -21,7 +21,7 @@ abbrev decreases-loop : tie.decreases-loop
 decreases-loop count vs good₀ i₀ good i = 256 - i
 
 loop-holds : tie.Need-loop-init invariant-loop decreases-loop
-loop-holds c = (omega arith, omega (arith, c.requires), from-none _ _)
+loop-holds c = (omega arith, omega (arith, c.requires), from_none _ _)
 
 mul-good : tie.Need-overflow-mul-good invariant-loop decreases-loop
 mul-good c = omega arith

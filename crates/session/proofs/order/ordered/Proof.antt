@@ -5,15 +5,15 @@ use Prim.Native.Nat.{◌-◌, ◌≤◌, min, max}
 use native.Mathlib.Omega.{arith}
 use borrow.Author.Rules.{rules}
 use Rattle.tree.specs.Every.{every}
-use Rattle.tree.proofs.Every.{every-none, every_more, every-fails}
-use Rattle.session.specs.inner.Passes.{highs, lows, orderedAt, ordered}
-use Rattle.session.proofs.Keeping.{kept-none, kept_more, high-fails, low-fails, both_hold}
+use Rattle.tree.proofs.Every.{every_none, every_more, every_fails}
+use Rattle.session.specs.inner.Passes.{highs, lows, ordered_at, ordered}
+use Rattle.session.proofs.Keeping.{kept_none, kept_more, high_fails, low_fails, both_hold}
 use Rattle.session.proofs.order.ordered.Statement.{statement}
 use Rattle.session.proofs.order.ordered.Tie as tie
 
 abbrev invariant-loop : tie.invariant-loop
 invariant-loop count parents up down high₀ low₀ n k₀ high low k =
-    (k ≤ n - 1) × ((high ≡ highs parents up down k) × ((low ≡ lows parents up down k) × (every (orderedAt parents up down) k ≡ true)))
+    (k ≤ n - 1) × ((high ≡ highs parents up down k) × ((low ≡ lows parents up down k) × (every (ordered_at parents up down) k ≡ true)))
 
 abbrev decreases-loop : tie.decreases-loop
 decreases-loop count parents up down high₀ low₀ n k₀ high low k = n - k
@@ -22,7 +22,7 @@ array-write-low : tie.Need-array-write-low invariant-loop decreases-loop
 array-write-low c = search rules
 
 loop-holds : tie.Need-loop-init invariant-loop decreases-loop
-loop-holds c = (omega arith, (sym (kept-none _ _ _ _), (sym (kept-none _ _ _ _), every-none _)))
+loop-holds c = (omega arith, (sym (kept_none _ _ _ _), (sym (kept_none _ _ _ _), every_none _)))
 
 add-loop : tie.Need-overflow-add-loop invariant-loop decreases-loop
 add-loop c = omega arith
@@ -46,7 +46,7 @@ returns : tie.Need-returns invariant-loop decreases-loop
 unfolding ordered
 returns c =
     let l = c.before.before.before.before.before.loop in
-    sym (every-fails _ l.k _ (omega arith) (high-fails _ _ _ _ l.k _ l.invariant.1.0 c.before.before.node.ensures.0 (omega arith)))
+    sym (every_fails _ l.k _ (omega arith) (high_fails _ _ _ _ l.k _ l.invariant.1.0 c.before.before.node.ensures.0 (omega arith)))
 
 array-read-if2 : tie.Need-array-read-if2 invariant-loop decreases-loop
 array-read-if2 c = search rules
@@ -58,7 +58,7 @@ returns-2 : tie.Need-returns-2 invariant-loop decreases-loop
 unfolding ordered
 returns-2 c =
     let l = c.before.before.before.before.before.before.before.loop in
-    sym (every-fails _ l.k _ (omega arith) (low-fails _ _ _ _ l.k _ l.invariant.1.1.0 c.before.before.before.before.node.ensures.0 (omega arith)))
+    sym (every_fails _ l.k _ (omega arith) (low_fails _ _ _ _ l.k _ l.invariant.1.1.0 c.before.before.before.before.node.ensures.0 (omega arith)))
 
 array-read-larger : tie.Need-array-read-larger invariant-loop decreases-loop
 array-read-larger c = search rules

@@ -7,7 +7,7 @@ use borrow.Author.Tests.{not-true, not-false}
 use lib.ListN.{set}
 use Rattle.fields.specs.declared.Field.TheVariants.{Value, Short}
 use Rattle.table.specs.Reading.{refused, reading_of}
-use Rattle.table.proofs.Turns.{Standing, none_read, near, parent-cut, parent-wrong, parent-read, end-wrong, end-right}
+use Rattle.table.proofs.Turns.{Standing, none_read, near, parent_cut, parent_wrong, parent_read, end_wrong, end_right}
 use Rattle.table.proofs.reader.nodes.Statement.{statement}
 use Rattle.table.proofs.reader.nodes.Tie as tie
 
@@ -30,18 +30,18 @@ module _ (g : tie.After-get invariant-loop decreases-loop) where
 
   cut : g.get.result ≡ Short → reading_of start.args.bytes.now ≡ refused 1
   cut e =
-      parent-cut _ _ start.pre _ _ _ g.before.before.before.loop.inv g.before.before.loop-test.taken _ g.before.of-parent.ensures
+      parent_cut _ _ start.pre _ _ _ g.before.before.before.loop.inv g.before.before.loop-test.taken _ g.before.of-parent.ensures
       (sym g.get.ensures ∙ e)
 
   wrong : (p : ℕ) → g.get.result ≡ Value p → k + 1 ≤ p → reading_of start.args.bytes.now ≡ refused 3
   wrong p e h =
-      parent-wrong _ _ start.pre _ _ _ g.before.before.before.loop.inv g.before.before.loop-test.taken _ g.before.of-parent.ensures
+      parent_wrong _ _ start.pre _ _ _ g.before.before.before.loop.inv g.before.before.loop-test.taken _ g.before.of-parent.ensures
       p (sym g.get.ensures ∙ e) (omega arith)
 
   turned : (p : ℕ) → g.get.result ≡ Value p → p < k + 1
       → Standing start.args.bytes.now start.args.count (set g.before.before.before.loop.parents (k + 1) p) (g.before.before.before.loop.place + g.before.of-parent.result) (k + 1)
   turned p e h =
-      parent-read _ _ start.pre _ _ _ g.before.before.before.loop.inv g.before.before.loop-test.taken _ g.before.of-parent.ensures
+      parent_read _ _ start.pre _ _ _ g.before.before.before.loop.inv g.before.before.loop-test.taken _ g.before.of-parent.ensures
       p (sym g.get.ensures ∙ e) (omega arith)
 
 loop-holds : tie.Need-loop-init invariant-loop decreases-loop
@@ -99,13 +99,13 @@ refused-requires-3 : tie.Need-refused-requires-3 invariant-loop decreases-loop
 refused-requires-3 c κs = tt
 
 returns-3 : tie.Need-returns-3 invariant-loop decreases-loop
-returns-3 c = c.refused3.ensures ∙ sym (end-wrong _ _ c.before.before.before.before.before.before.requires _ _ _ c.before.before.before.before.loop.invariant c.before.before.before.loop-test.false (sym c.before.before.ends.ensures ∙ not-true _ c.before.if2.true))
+returns-3 c = c.refused3.ensures ∙ sym (end_wrong _ _ c.before.before.before.before.before.before.requires _ _ _ c.before.before.before.before.loop.invariant c.before.before.before.loop-test.false (sym c.before.before.ends.ensures ∙ not-true _ c.before.if2.true))
 
 cast-t18 : tie.Need-overflow-cast-t18 invariant-loop decreases-loop
 cast-t18 c = omega arith
 
 returns-4 : tie.Need-returns-4 invariant-loop decreases-loop
-returns-4 c = sym (end-right _ _ c.before.before.before.before.before.requires _ _ _ c.before.before.before.loop.invariant c.before.before.loop-test.false (sym c.before.ends.ensures ∙ not-false _ c.if2.false))
+returns-4 c = sym (end_right _ _ c.before.before.before.before.before.requires _ _ _ c.before.before.before.loop.invariant c.before.before.loop-test.false (sym c.before.ends.ensures ∙ not-false _ c.if2.false))
 
 pub nodes-spec : {M : Type 1} → statement M
 nodes-spec =

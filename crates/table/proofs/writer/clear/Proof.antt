@@ -2,7 +2,7 @@
 use Prim.Native.Nat.{◌-◌, ◌≤◌}
 use mathlib.Core.Path.{◌≡◌}
 use native.Mathlib.Omega.{arith}
-use Rattle.table.proofs.Stores.{Cleared, none-cleared, one-cleared}
+use Rattle.table.proofs.Stores.{Cleared, none_cleared, one_cleared}
 use Rattle.table.proofs.writer.clear.Statement.{statement}
 use Rattle.table.proofs.writer.clear.Tie as tie
 
@@ -13,7 +13,7 @@ abbrev decreases-loop : tie.decreases-loop
 decreases-loop out₀ bytes i₀ out i = bytes - i
 
 loop-holds : tie.Need-loop-init invariant-loop decreases-loop
-loop-holds c = (omega arith, none-cleared _)
+loop-holds c = (omega arith, none_cleared _)
 
 slice-write-out : tie.Need-slice-write-out invariant-loop decreases-loop
 slice-write-out c = omega (arith, c.before.loop.invariant.1.same)
@@ -25,7 +25,7 @@ loop-less : tie.Need-loop-smaller invariant-loop decreases-loop
 loop-less c = omega arith
 
 loop-again : tie.Need-loop-preserved invariant-loop decreases-loop
-loop-again c = (omega arith, one-cleared _ _ _ (omega arith) c.before.loop.invariant.1)
+loop-again c = (omega arith, one_cleared _ _ _ (omega arith) c.before.loop.invariant.1)
 
 same_length : tie.Need-same-length invariant-loop decreases-loop
 same_length c = c.before.loop.invariant.1.same

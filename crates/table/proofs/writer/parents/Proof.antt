@@ -5,7 +5,7 @@ use Prim.Native.Nat.{ℕ, ◌+◌, ◌-◌, ◌≤◌}
 use native.Mathlib.Omega.{arith}
 use Rattle.fields.specs.Usable.{put_at}
 use Rattle.tree.specs.Parents.{parent}
-use Rattle.table.proofs.Stores.{Stored, none-stored, all-stored, store-near, one-stored}
+use Rattle.table.proofs.Stores.{Stored, none_stored, all_stored, store_near, one_stored}
 use Rattle.table.proofs.writer.parents.Statement.{statement}
 use Rattle.table.proofs.writer.parents.Tie as tie
 
@@ -21,16 +21,16 @@ module _ (g : tie.After-of-parent invariant-loop decreases-loop) where
   start = g.before.before.before.before
 
   close : g.before.before.loop.place + g.of-parent.result ≤ 524288
-  close = store-near _ _ _ start.pre.0 start.pre.1.0 _ _ _ g.before.before.loop.inv g.before.loop-test.taken _ g.of-parent.ensures
+  close = store_near _ _ _ start.pre.0 start.pre.1.0 _ _ _ g.before.before.loop.inv g.before.loop-test.taken _ g.of-parent.ensures
 
   turned : (p : ℕ) → p ≡ parent start.args.parents.now (g.before.before.loop.k + 1) → (out : List ℕ) → out ≡ put_at g.before.before.loop.out g.before.before.loop.place g.of-parent.result p
       → Stored start.args.out.now start.args.parents.now start.args.count out (g.before.before.loop.place + g.of-parent.result) (g.before.before.loop.k + 1)
   turned =
-      one-stored _ _ _ start.pre.0 start.pre.1.0 _ _ _ g.before.before.loop.inv g.before.loop-test.taken _ g.of-parent.ensures
+      one_stored _ _ _ start.pre.0 start.pre.1.0 _ _ _ g.before.before.loop.inv g.before.loop-test.taken _ g.of-parent.ensures
       start.pre.1.1.0 start.pre.1.1.1
 
 loop-holds : tie.Need-loop-init invariant-loop decreases-loop
-loop-holds c = none-stored _ _ _ c.before.requires.0 c.before.requires.1.0
+loop-holds c = none_stored _ _ _ c.before.requires.0 c.before.requires.1.0
 
 add-loop : tie.Need-overflow-add-loop invariant-loop decreases-loop
 add-loop c = omega (arith, c.loop.invariant.left)
@@ -66,7 +66,7 @@ same_length : tie.Need-same-length invariant-loop decreases-loop
 same_length c = c.before.loop.invariant.same
 
 returns : tie.Need-returns invariant-loop decreases-loop
-returns c = all-stored _ _ _ c.before.before.before.requires.0 c.before.before.before.requires.1.0 _ _ _ c.before.loop.invariant c.loop-test.false
+returns c = all_stored _ _ _ c.before.before.before.requires.0 c.before.before.before.requires.1.0 _ _ _ c.before.loop.invariant c.loop-test.false
 
 pub parents-spec : {M : Type 1} → statement M
 parents-spec =

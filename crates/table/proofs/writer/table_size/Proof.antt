@@ -3,19 +3,19 @@ use Prim.Native.Nat.{◌-◌, ◌<◌}
 use mathlib.Core.Path.{◌≡◌, sym}
 use native.Mathlib.Numerals.{add-one}
 use native.Mathlib.Omega.{arith}
-use Rattle.table.specs.Layout.{parentPlace}
-use Rattle.table.proofs.Widths.{long-le, place-zero, place-suc, place-le}
+use Rattle.table.specs.Layout.{parent_place}
+use Rattle.table.proofs.Widths.{long_le, place_zero, place_suc, place_le}
 use Rattle.table.proofs.writer.table_size.Statement.{statement}
 use Rattle.table.proofs.writer.table_size.Tie as tie
 
 abbrev invariant-loop : tie.invariant-loop
-invariant-loop count place₀ k₀ at k = (k < count) × (at ≡ parentPlace k)
+invariant-loop count place₀ k₀ at k = (k < count) × (at ≡ parent_place k)
 
 abbrev decreases-loop : tie.decreases-loop
 decreases-loop count place₀ k₀ at k = count - k
 
 loop-holds : tie.Need-loop-init invariant-loop decreases-loop
-loop-holds c = (omega arith, sym place-zero)
+loop-holds c = (omega arith, sym place_zero)
 
 add-loop : tie.Need-overflow-add-loop invariant-loop decreases-loop
 add-loop c = omega arith
@@ -24,7 +24,7 @@ of-parent-requires : tie.Need-of-parent-requires invariant-loop decreases-loop
 of-parent-requires c κs = tt
 
 add-place : tie.Need-overflow-add-place invariant-loop decreases-loop
-add-place c = omega (arith, long-le c.before.before.loop.k (omega arith), place-le c.before.before.loop.k (omega arith))
+add-place c = omega (arith, long_le c.before.before.loop.k (omega arith), place_le c.before.before.loop.k (omega arith))
 
 add-k : tie.Need-overflow-add-k invariant-loop decreases-loop
 add-k c = omega arith
@@ -33,10 +33,10 @@ loop-less : tie.Need-loop-smaller invariant-loop decreases-loop
 loop-less c = omega arith
 
 loop-again : tie.Need-loop-preserved invariant-loop decreases-loop
-loop-again c = (omega arith, rw (add-one, place-suc, ← c.of-parent.ensures, ← c.before.before.loop.invariant.1))
+loop-again c = (omega arith, rw (add-one, place_suc, ← c.of-parent.ensures, ← c.before.before.loop.invariant.1))
 
 add-result : tie.Need-overflow-add-result invariant-loop decreases-loop
-add-result c = omega (arith, place-le c.before.loop.k (omega arith))
+add-result c = omega (arith, place_le c.before.loop.k (omega arith))
 
 returns : tie.Need-returns invariant-loop decreases-loop
 returns c = let e : c.before.loop.k ≡ c.before.before.args.count - 1 = omega arith in rw (← e, ← c.before.loop.invariant.1)

@@ -2,7 +2,7 @@
 use mathlib.Core.Path.{ap₂, ◌∙◌}
 use mathlib.Core.Bool.{◌&&◌}
 use borrow.Author.Rules.{rules}
-use Rattle.tree.proofs.InRule.{passes-say}
+use Rattle.tree.proofs.InRule.{passes_say}
 use Rattle.tree.proofs.entry.entries_in_rule.Statement.{statement}
 use Rattle.tree.proofs.entry.entries_in_rule.Tie as tie
 
@@ -19,7 +19,7 @@ returns : tie.Need-returns
 returns c =
     let g = c.before in
     let s = g.before.before in
-    ap₂ ◌&&◌ (ap₂ ◌&&◌ g.before.zero.ensures g.grown.ensures) c.zero2.ensures ∙ passes-say s.args.parents.now s.args.count s.requires.1
+    ap₂ ◌&&◌ (ap₂ ◌&&◌ g.before.zero.ensures g.grown.ensures) c.zero2.ensures ∙ passes_say s.args.parents.now s.args.count s.requires.1
 
 pub entries-in-rule-spec : {M : Type 1} → statement M
 entries-in-rule-spec = tie.close (tie.spec zero-requires grown-requires zero-requires-2 returns)

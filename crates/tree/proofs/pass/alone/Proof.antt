@@ -5,7 +5,7 @@ use native.Mathlib.Omega.{arith}
 use borrow.Author.Rules.{rules}
 use Rattle.tree.specs.Sizes.{listed, ones}
 use borrow.Author.Tests.{le-ltb}
-use Rattle.tree.proofs.Listed.{listed-zero, ones-more}
+use Rattle.tree.proofs.Listed.{listed_zero, ones_more}
 use Rattle.tree.proofs.pass.alone.Statement.{statement}
 use Rattle.tree.proofs.pass.alone.Tie as tie
 
@@ -16,7 +16,7 @@ abbrev decreases-loop : tie.decreases-loop
 decreases-loop count size₀ node₀ size node = count - node
 
 loop-holds : tie.Need-loop-init invariant-loop decreases-loop
-loop-holds c = (omega arith, listed-zero (ones 0) 256 (λ i l. rw (le-ltb i 0 (omega arith))))
+loop-holds c = (omega arith, listed_zero (ones 0) 256 (λ i l. rw (le-ltb i 0 (omega arith))))
 
 mul-size : tie.Need-overflow-mul-size invariant-loop decreases-loop
 mul-size c = omega arith
@@ -31,7 +31,7 @@ loop-less : tie.Need-loop-smaller invariant-loop decreases-loop
 loop-less c = omega arith
 
 loop-again : tie.Need-loop-preserved invariant-loop decreases-loop
-loop-again c = let l = c.before.loop in (omega arith, rw l.invariant.1 (ones-more l.node (omega arith)))
+loop-again c = let l = c.before.loop in (omega arith, rw l.invariant.1 (ones_more l.node (omega arith)))
 
 returns : tie.Need-returns invariant-loop decreases-loop
 returns c = let e : c.before.loop.node ≡ c.before.before.args.count = omega arith in rw e at c.before.loop.invariant.1

@@ -7,7 +7,7 @@ use native.Mathlib.Omega.{arith}
 use borrow.Author.Rules.{rules}
 use Rattle.tree.specs.Sizes.{listed}
 use Rattle.tree.proofs.Listed.{listed_same}
-use Rattle.tree.proofs.Downward.{held, held_first, held-last, parent-inside, sum-most, pass-turn}
+use Rattle.tree.proofs.Downward.{held, held_first, held_last, parent_inside, sum_most, pass_turn}
 use Rattle.tree.proofs.pass.summed.Statement.{statement}
 use Rattle.tree.proofs.pass.summed.Tie as tie
 
@@ -30,17 +30,17 @@ module _ (c : tie.After-node invariant-loop decreases-loop) where
 
   inside : c.node.result < next - 1
   inside =
-      parent-inside start.args.parents.now start.args.count start.pre.1.0 start.pre.1.1 size next c.node.result
+      parent_inside start.args.parents.now start.args.count start.pre.1.0 start.pre.1.1 size next c.node.result
       (omega arith) (omega arith) c.before.before.before.loop.invariant.1.1 c.node.ensures
 
   most : get_or size c.node.result 0 + get_or size (next - 1) 0 ≤ start.args.count
   most =
-      sum-most start.args.parents.now start.args.count start.pre.1.0 start.pre.1.1 size next c.node.result
+      sum_most start.args.parents.now start.args.count start.pre.1.0 start.pre.1.1 size next c.node.result
       (omega arith) (omega arith) c.before.before.before.loop.invariant.1.1 c.node.ensures
 
   turned : set size c.node.result (get_or size c.node.result 0 + get_or size (next - 1) 0) ≡ listed (held start.args.parents.now start.args.count (next - 1)) 256
   turned =
-      pass-turn start.args.parents.now start.args.count start.pre.1.0 start.pre.1.1 size next c.node.result
+      pass_turn start.args.parents.now start.args.count start.pre.1.0 start.pre.1.1 size next c.node.result
       (omega arith) (omega arith) c.before.before.before.loop.invariant.1.1 c.node.ensures
 
 alone-requires : tie.Need-alone-requires invariant-loop decreases-loop
@@ -86,7 +86,7 @@ loop-again : tie.Need-loop-preserved invariant-loop decreases-loop
 loop-again c = (omega arith, (omega arith, turned c))
 
 returns : tie.Need-returns invariant-loop decreases-loop
-returns c = let s = c.before.before.before in let e : c.before.loop.next ≡ 1 = omega arith in (rw e at c.before.loop.invariant.1.1) ∙ listed_same _ _ 256 (λ i l. held-last s.args.parents.now s.args.count s.requires.1.1 i)
+returns c = let s = c.before.before.before in let e : c.before.loop.next ≡ 1 = omega arith in (rw e at c.before.loop.invariant.1.1) ∙ listed_same _ _ 256 (λ i l. held_last s.args.parents.now s.args.count s.requires.1.1 i)
 
 pub summed-spec : {M : Type 1} → statement M
 summed-spec =

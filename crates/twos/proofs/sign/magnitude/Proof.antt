@@ -2,7 +2,7 @@
 use native.Mathlib.Omega.{arith}
 use mir.Facts.{to_z-of_z, to_z_pos}
 use mir.Syntax.{w64}
-use Rattle.twos.proofs.Signs.{flip_down, up-mag}
+use Rattle.twos.proofs.Signs.{flip_down, up_mag}
 use Rattle.twos.proofs.sign.magnitude.Statement.{statement}
 use Rattle.twos.proofs.sign.magnitude.Tie as tie
 
@@ -10,13 +10,13 @@ cast-result : tie.Need-overflow-cast-result
 cast-result c =
     let e = to_z-of_z c.before.ranges.value in
     let h = rw e at c.if1.true in
-    rw (e, up-mag c.before.args.value h) (tt, record { fits = omega (arith, c.before.ranges.value.sfits) })
+    rw (e, up_mag c.before.args.value h) (tt, record { fits = omega (arith, c.before.ranges.value.sfits) })
 
 returns : tie.Need-returns
 returns c =
     let e = to_z-of_z c.before.ranges.value in
     let h = rw e at c.if1.true in
-    rw e (rw (up-mag c.before.args.value h))
+    rw e (rw (up_mag c.before.args.value h))
 
 sub-result : tie.Need-overflow-sub-result
 sub-result c =

@@ -6,7 +6,7 @@ use lib.Pow.{pow_mono}
 use Prim.Native.Nat.{◌-◌}
 use mir.Facts.{to_z-of_z}
 use borrow.Author.Rules.{rules}
-use Rattle.twos.proofs.Signs.{twos_up, twos-down}
+use Rattle.twos.proofs.Signs.{twos_up, twos_down}
 use Rattle.twos.proofs.sign.number.Statement.{statement}
 use Rattle.twos.proofs.sign.number.Tie as tie
 
@@ -37,7 +37,7 @@ returns-2 c =
     let s = c.before.before.before in
     let e = to_z-of_z s.ranges.value in
     let d = c.before.before.magnitude.ensures ∙ ap mag e in
-    omega (arith, twos-down s.args.width s.args.value (omega arith) s.requires.2 (rw e at c.before.if1.false))
+    omega (arith, twos_down s.args.width s.args.value (omega arith) s.requires.2 (rw e at c.before.if1.false))
 
 pub number-spec : {M : Type 1} → statement M
 number-spec =

@@ -47,7 +47,7 @@ use denote.Triple.Table.{entered, cited}
 use denote.Triple.Walked.{says, Stays, stay_ref, stay_none, walk_of, Goes-ref, Goes-none, Walks, ends_at, walked, walk_Meets}
 use denote.Exit.{yes}
 use denote.Signature.{Slot, plain, named_lft}
-use Rattle.messages.specs.Reading.{entry_at, placeAfter}
+use Rattle.messages.specs.Reading.{entry_at, place_after}
 use Rattle.messages.specs.declared.reader.LogReader.{LogReader}
 use Rattle.messages.specs.declared.Entry.{Entry}
 use Rattle.messages.specs.contracts.reader.LogReader as T
@@ -153,14 +153,14 @@ module _ {M : Type 1} {𝓤 : Ura M} (𝓛 : Logic 𝓤) (at_mem : Memory → SP
   goes-past fits r u =
       qed 𝓛 (‵ ((S.the_row).own_val r (u ∷ [])) ∷ []) ∵ nothing ! $ owned ! usize (Is usize) (uint_Makes 𝓛 w64) h.place _ (refl, fits) $ fjoin ! $ move ! (1 ∷ 0 ∷ []) $ fjoin ! $ nothing ! $ join ! $ frame ! $ done !
 
-  past-said : (r : Entry) (k : ℕ) → ent 𝓤 (ensured 𝓛 past.ended (past.clauses 𝓛 at_mem run) tt (r, (h.place, tt)) tt k) (fact 𝓤 (k ≡ placeAfter r h.place))
-  past-said r k = ex_e 𝓤 _ (λ ws. snd∗ 𝓤 (sem 𝓛 (lasts past.ended tt (r, (h.place, tt)) ws)) (fact 𝓤 (k ≡ placeAfter r h.place)))
+  past-said : (r : Entry) (k : ℕ) → ent 𝓤 (ensured 𝓛 past.ended (past.clauses 𝓛 at_mem run) tt (r, (h.place, tt)) tt k) (fact 𝓤 (k ≡ place_after r h.place))
+  past-said r k = ex_e 𝓤 _ (λ ws. snd∗ 𝓤 (sem 𝓛 (lasts past.ended tt (r, (h.place, tt)) ws)) (fact 𝓤 (k ≡ place_after r h.place)))
 
   -- what log owns is kept, and place's facts are made anew
   again : (k : ℕ) → k < 2 ^ 64 → ent 𝓤 (sem 𝓛 Own) (sem 𝓛 ((B κ').own_val (at_place k) (T'.lowered (at_place k) ∷ [])))
   again k fits = qed 𝓛 (‵ Own ∷ []) ∵ owned ! usize (Is usize) (uint_Makes 𝓛 w64) k _ (refl, fits) $ move ! (1 ∷ 0 ∷ []) $ by ! (own_put 𝓛 D L 1 vd k mach)
 
-  exits : (r : Entry) (u : Val) (k : ℕ) → r ≡ found → k ≡ placeAfter r h.place
+  exits : (r : Entry) (u : Val) (k : ℕ) → r ≡ found → k ≡ place_after r h.place
       → ent 𝓤 (⋆ 𝓛 (‵ (fobs γ ((B κ').coded.code (at_place k))) ∷ ‵ (fbor κ (Body (mem (B κ')) b o γ)) ∷ ‵ (flft κ q) ∷ (‵ (flft κ' q') ⊛ ‵ ftrue) ∷ ‵ ((S.the_row).own_val r (u ∷ [])) ∷ [])) (Post u)
   exits r u k e e' =
       qed 𝓛 (‵ (fobs γ ((B κ').coded.code (at_place k))) ∷ ‵ (fbor κ (Body (mem (B κ')) b o γ)) ∷ ‵ (flft κ q) ∷ (‵ (flft κ' q') ⊛ ‵ ftrue) ∷ ‵ ((S.the_row).own_val r (u ∷ [])) ∷ []) ∵
@@ -202,7 +202,7 @@ module _ {M : Type 1} {𝓤 : Ura M} (𝓛 : Logic 𝓤) (at_mem : Memory → SP
         -- [what `place_after` asks; the entry; the token of 'a; what a LogReader owns; the cell; the open borrow; obs; auth; n's; _6; …]
         calls_at ! fm (PlaceAfter 𝓛 at_mem run) known_past (to-past r u) (and_then ! (load ! (from ! (stop !)) (look ! 15 refl)) (and_then ! (load ! (from ! (stop !)) (look ! 9 refl)) (no_more !))) (λ w.
         use1 𝓛 (later (some (λ (k : ℕ). (‵ ftrue ⊛ ‵ (usize.own_val k (w ∷ []))) ⊛ raw (ensured 𝓛 past.ended (past.clauses 𝓛 at_mem run) tt (r, (h.place, tt)) tt k)))) (id⊢ 𝓤 _) $ await ! tt $ pick ! (λ k.
-        split ! $ move ! (1 ∷ []) $ use1 𝓛 (raw (fact 𝓤 (k ≡ placeAfter r h.place))) (past-said r k) $ heard ! (k ≡ placeAfter r h.place) (λ e'. split ! $ move ! (1 ∷ []) $
+        split ! $ move ! (1 ∷ []) $ use1 𝓛 (raw (fact 𝓤 (k ≡ place_after r h.place))) (past-said r k) $ heard ! (k ≡ place_after r h.place) (λ e'. split ! $ move ! (1 ∷ []) $
         -- [the number's; …; the entry; the token of 'a; what a LogReader owns; the cell; the open borrow; obs; auth; n's; _6; …]
         peeks ! usize (Is usize) (shows 𝓛 usize) k (w ∷ []) (λ isk.
         land ! (from ! (stop !)) (store ! 12 refl ((uint_Lawful 𝓛 w64).typed k _ isk).0) $ rewrite ! 12 (λ (y : Val). ‵ (fat full_share (ty_int w64) l₅ 0 y)) (ap only isk.0) refl $
