@@ -2,6 +2,8 @@
 //
 // Every public function is total: it takes whatever it is handed and has one outcome. Only the first
 // 65,536 bytes of a slice, or all of a shorter one, are ever used.
+#![tactic(auto)]
+
 mod bit; // one bit of a slice
 mod room; // which fields lie in a slice, which numbers in a field
 mod span; // the bits of a field, one by one

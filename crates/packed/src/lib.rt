@@ -1,5 +1,7 @@
 // Fields packed one behind the other from bit 0 on, with zero bits to the byte: how a tree's table
 // and a request list are laid out.
+#![tactic(auto)]
+
 ghost use Rattle.std.specs.Prelude.{◌≡◌};
 ghost use Rattle.packed.specs.Parts as spec;
 

@@ -34,8 +34,8 @@ more write one_write = write_write_last []
 
 from : {l : List Request} {k : ℕ} (m : List Request) → Configuration l k → Configuration (l ++ m) (number_after 2 k m)
 unfolding number_after
-from {l} {k} [] c = rw append-nil c
-from {l} {k} (r ∷ m) c = subst (λ i. Configuration i (number_after 2 (next 2 k r) m)) (append_assoc l (r ∷ []) m) (from m (more r c))
+from {l = l} {k = k} [] c = rw append-nil c
+from {l = l} {k = k} (r ∷ m) c = subst (λ i. Configuration i (number_after 2 (next 2 k r) m)) (append_assoc l (r ∷ []) m) (from {l = l ++ (r ∷ [])} {k = next 2 k r} m (more r c))
 
 pub configured : Configured
 configured l k = (number_is, λ e. subst (Configuration l) e (from l initial))

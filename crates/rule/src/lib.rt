@@ -3,6 +3,8 @@
 //
 // A pair's lease number is 0 where there is no lease, and else how many writes in a row break it.
 // What the rule sends and what that costs at most is mathematics: it stands in specs/ and proofs/.
+#![tactic(auto)]
+
 ghost use Rattle.std.specs.Prelude.{◌≡◌, replicate};
 ghost use Rattle.rule.specs.Pair.{combine, write, number_after};
 

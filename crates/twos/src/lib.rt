@@ -1,6 +1,8 @@
 // Two's complement in fields of 1 to 64 bits.
 //
 // Every public function is total: it takes whatever it is handed and has one outcome.
+#![tactic(auto)]
+
 mod sign; // a number and its sign
 
 ghost use Rattle.std.specs.Prelude.{◌≡◌};

@@ -1,0 +1,11 @@
+-- `room::power` meets its contract: the shift loses nothing.
+use mathlib.Core.Path.{◌∙◌}
+use Prim.Native.Nat.{◌^◌}
+use native.Mathlib.Nat.{one-mul}
+use native.Mathlib.Omega.{arith}
+use lib.Dec.{lit<}
+use lib.Pow.{shl_exact}
+use Rattle.fields.proofs.room.power.Goals as goal
+
+pub returns : goal.returns
+returns c = shl_exact 1 c.args.n 64 (lit< tt) (omega arith) ∙ one-mul (2 ^ c.args.n)
