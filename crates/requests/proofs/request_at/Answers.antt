@@ -10,9 +10,10 @@ use Rattle.fields.specs.declared.Field.TheVariants.{Value}
 use Rattle.fields.proofs.Rooms.{found}
 use Rattle.requests.proofs.Steps.{found_at, no_kind, no_node, node_byte, combine_found, no_value, no_misfit, write_found}
 use Rattle.requests.proofs.request_at.Goals as goal
+use Rattle.requests.proofs.request_at.Goals.{In-Value-get, In-Value-get-2}
 
 -- the kind and the node that were found
-module _ (c : tie.After-known-told2) where
+module _ (c : In-Value-get) where
   abbrev list : List ℕ
   list = c.args.list.now
 
@@ -33,7 +34,7 @@ module _ (c : tie.After-known-told2) where
   byte = node_byte _ _ _ _ kind_is node-is
 
 -- the number behind them that was found
-number_is : (c : tie.After-known-told3) → field_at (list c) (place c + 9) 32 ≡ Value c.in-Value-get-2.number
+number_is : (c : In-Value-get-2) → field_at c.args.list.now (c.args.place + 9) 32 ≡ Value c.in-Value-get-2.number
 number_is c = found_at _ (sym c.get-3.ensures ∙ c.in-Value-get-2.is) (omega arith) (omega arith)
 
 pub returns-in_default : goal.returns-in_default
@@ -46,30 +47,31 @@ pub returns-in_default-get : goal.returns-in_default-get
 returns-in_default-get c = sym (no_node _ _ (found_at _ (sym c.get-2.ensures ∙ c.in_default-get.is) (omega arith) (omega arith)))
 
 pub overflow_cast-result : goal.overflow_cast-result
-overflow_cast-result c = omega (arith, byte c)
+overflow_cast-result c = omega (arith, byte (goal.at.overflow_cast-result c).In-Value-get)
 
 pub overflow_add-result : goal.overflow_add-result
-overflow_add-result c = omega (arith, near c)
+overflow_add-result c = omega (arith, near (goal.at.overflow_add-result c).In-Value-get)
 
 pub returns-then-kind-eq0 : goal.returns-then-kind-eq0
-returns-then-kind-eq0 c = sym (combine_found _ _ _ _ (kind_is c) (node-is c) c.if-kind-eq0.true)
+returns-then-kind-eq0 c = sym (combine_found _ _ _ _ (kind_is (goal.at.returns-then-kind-eq0 c).In-Value-get) (node-is (goal.at.returns-then-kind-eq0 c).In-Value-get) c.if-kind-eq0.true)
 
 pub overflow_add-place-2 : goal.overflow_add-place-2
-overflow_add-place-2 c = omega (arith, near c)
+overflow_add-place-2 c = omega (arith, near (goal.at.overflow_add-place-2 c).In-Value-get)
 
 pub returns-in_default-get-2 : goal.returns-in_default-get-2
-returns-in_default-get-2 c = sym (no_value _ _ _ _ (kind_is c) (node-is c) c.if-kind-eq0.false (found_at _ (sym c.get-3.ensures ∙ c.in_default-get-2.is) (omega arith) (omega arith)))
+returns-in_default-get-2 c = sym (no_value _ _ _ _ (kind_is (goal.at.returns-in_default-get-2 c).In-Value-get) (node-is (goal.at.returns-in_default-get-2 c).In-Value-get) c.if-kind-eq0.false (found_at _ (sym c.get-3.ensures ∙ c.in_default-get-2.is) (omega arith) (omega arith)))
 
 pub returns-in_default-decode32 : goal.returns-in_default-decode32
-returns-in_default-decode32 c = absurd (no_misfit _ _ _ (number_is c) (sym c.decode32.ensures ∙ c.in_default-decode32.is))
+returns-in_default-decode32 c = absurd (no_misfit _ _ _ (number_is (goal.at.returns-in_default-decode32 c).In-Value-get-2) (sym c.decode32.ensures ∙ c.in_default-decode32.is))
 
 pub overflow_cast-result-2 : goal.overflow_cast-result-2
-overflow_cast-result-2 c = omega (arith, byte c)
+overflow_cast-result-2 c = omega (arith, byte (goal.at.overflow_cast-result-2 c).In-Value-get)
 
 pub overflow_add-result-2 : goal.overflow_add-result-2
-overflow_add-result-2 c = omega (arith, near c)
+overflow_add-result-2 c = omega (arith, near (goal.at.overflow_add-result-2 c).In-Value-get)
 
 pub returns : goal.returns
 returns c =
-    rw (to_z-of_z {w = w32} (record { sfits = c.known_told-in-Value-decode32-1.given.0.1 }))
-    (sym (write_found _ _ _ _ (kind_is c) (node-is c) c.if-kind-eq0.false _ _ _ (number_is c) (sym c.decode32.ensures ∙ c.in-Value-decode32.is) (omega arith)))
+    let h = rw c.in-Value-decode32.is at c.decode32.type_inv in
+    rw (to_z-of_z {w = w32} {z = c.in-Value-decode32.value} (record { sfits = assumption h }))
+    (sym (write_found _ _ _ _ (kind_is (goal.at.returns c).In-Value-get) (node-is (goal.at.returns c).In-Value-get) c.if-kind-eq0.false _ _ _ (number_is (goal.at.returns c).In-Value-get-2) (sym c.decode32.ensures ∙ c.in-Value-decode32.is) (omega arith)))

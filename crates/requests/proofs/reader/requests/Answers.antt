@@ -1,8 +1,6 @@
 -- `reader::requests` meets its contract: each turn goes one request on, and each return is what the format says.
 use mathlib.Core.Path.{sym, ◌∙◌}
-use Prim.Native.Nat.{◌-◌}
 use native.Mathlib.Omega.{arith}
-use borrow.Author.Tests.{not-true, not-false}
 use Rattle.requests.proofs.Walk.{one_at_most, went_none, went_few, went_on, went_short, went_left_over, went_whole}
 use Rattle.requests.proofs.reader.requests.Goals as goal
 
@@ -22,7 +20,7 @@ pub loop-k-preserved : goal.loop-k-preserved
 loop-k-preserved c = went_on _ _ c.requires _ _ _ c.loop-k.invariant c.loop-k-test.true _ _ _ (sym c.request_at.ensures ∙ c.in-Found.is) (omega (arith, c.one_if_combine-combines.ensures))
 
 pub returns-then-not-ends : goal.returns-then-not-ends
-returns-then-not-ends c = c.refused-then-not-ends.ensures ∙ sym (went_left_over _ _ c.requires _ _ _ c.loop-k.invariant c.loop-k-test.false _ (omega arith) (sym c.ends.ensures ∙ not-true _ c.if-not-ends.true))
+returns-then-not-ends c = c.refused-then-not-ends.ensures ∙ sym (went_left_over _ _ c.requires _ _ _ c.loop-k.invariant c.loop-k-test.false _ (omega arith) (sym c.ends.ensures ∙ c.if-not-ends.true))
 
 pub returns : goal.returns
-returns c = sym (went_whole _ _ c.requires _ _ _ c.loop-k.invariant c.loop-k-test.false _ (omega arith) (sym c.ends.ensures ∙ not-false _ c.if-not-ends.false))
+returns c = sym (went_whole _ _ c.requires _ _ _ c.loop-k.invariant c.loop-k-test.false _ (omega arith) (sym c.ends.ensures ∙ c.if-not-ends.false))
