@@ -2,6 +2,8 @@
 //
 // Every function takes any session, also one that no call of this library returned, and has one
 // outcome.
+#![tactic(auto)]
+
 mod entry; // the entries of pairs and values
 mod order; // the inequality between neighbouring pairs
 
@@ -17,7 +19,7 @@ use tree::Tree;
 // What is held of one ordered pair for each edge, at the place of the child: the lease number, the
 // cache for the near side, and the messages sent so far.
 #[repr(C)]
-#[derive(Drop)]
+#[derive(Clone, Copy)]
 pub struct Pairs {
     pub lease: [u8; 256],
     pub cache: [i64; 256],
@@ -27,7 +29,7 @@ pub struct Pairs {
 // A tree, the value of each node, the pairs from child to parent, those from parent to child, and
 // how many requests were accepted. Entries not used are zero.
 #[repr(C)]
-#[derive(Drop)]
+#[derive(Clone, Copy)]
 pub struct Session {
     pub tree: Tree,
     pub values: [i32; 256],
