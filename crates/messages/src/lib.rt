@@ -2,6 +2,8 @@
 //
 // Every public function is total: it takes whatever it is handed and has one outcome. Only the first
 // 65,536 bytes of a log, or all of a shorter one, are ever used: the usable log.
+#![tactic(auto)]
+
 mod reader; // the log's reader that carries the log and its place along
 mod record; // a message as a record of bits
 
@@ -14,7 +16,7 @@ pub use reader::LogReader;
 
 // What one node sends a neighbour: the sender, the receiver, and for a response and an update the
 // value.
-#[derive(Drop)]
+#[derive(Clone, Copy)]
 pub enum Message {
     Probe(u8, u8),
     Response(u8, u8, i64),
@@ -43,7 +45,7 @@ pub enum Recorded {
 }
 
 // What reading finds at a place.
-#[derive(Drop)]
+#[derive(Clone, Copy)]
 pub enum Entry {
     // a message, and the place after its record
     Read(Message, usize),
