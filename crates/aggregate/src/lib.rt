@@ -3,6 +3,8 @@
 // Every public function takes whatever it is handed and has one outcome. A refused call answers its
 // number and zeros, and leaves the session and all lent memory as they were; a list that stops midway
 // keeps what its earlier requests did.
+#![tactic(auto)]
+
 mod act; // what a combine and a write do in their turn
 mod apply; // what messages make of a session
 mod ask; // the walk of a combine

@@ -12,7 +12,7 @@ ghost use Rattle.requests.specs.Reading.{item_at, judged_of};
 
 // A request: a combine at a node, or a write of a value at a node. Whether the tree has such a node
 // is not judged here.
-#[derive(Drop)]
+#[derive(Clone, Copy)]
 pub enum Request {
     Combine(u8),
     Write(u8, i32),
