@@ -10,7 +10,7 @@ use crate::ask::Asked;
 use crate::{ask, raise, reads, spread};
 use requests::Request;
 
-#[derive(Drop)]
+#[derive(Clone, Copy)]
 pub enum Act {
     Combine,
     Write(i32),

@@ -14,7 +14,7 @@ pub use reader::LogReader;
 
 // What one node sends a neighbour: the sender, the receiver, and for a response and an update the
 // value.
-#[derive(Drop)]
+#[derive(Clone, Copy)]
 pub enum Message {
     Probe(u8, u8),
     Response(u8, u8, i64),
@@ -23,7 +23,7 @@ pub enum Message {
 }
 
 // A message as a number.
-#[derive(Drop)]
+#[derive(Clone, Copy)]
 pub enum Coded {
     // the message's record, with zero bits behind it up to 58
     Number(u64),
@@ -32,7 +32,7 @@ pub enum Coded {
 }
 
 // What writing a message answers.
-#[derive(Drop)]
+#[derive(Clone, Copy)]
 pub enum Recorded {
     // the place after the message's record
     Next(usize),
@@ -43,7 +43,7 @@ pub enum Recorded {
 }
 
 // What reading finds at a place.
-#[derive(Drop)]
+#[derive(Clone, Copy)]
 pub enum Entry {
     // a message, and the place after its record
     Read(Message, usize),

@@ -10,14 +10,14 @@ ghost use Rattle.requests.specs.Reading.{item_at, judged_of};
 
 // A request: a combine at a node, or a write of a value at a node. Whether the tree has such a node
 // is not judged here.
-#[derive(Drop)]
+#[derive(Clone, Copy)]
 pub enum Request {
     Combine(u8),
     Write(u8, i32),
 }
 
 // What stands at a place of a list.
-#[derive(Drop)]
+#[derive(Clone, Copy)]
 pub enum Item {
     // a request, and the place after it
     Found(Request, usize),
@@ -28,7 +28,7 @@ pub enum Item {
 // What judging a list answers: 0, how many requests it has, how many of them are combines, and the
 // place of the first; or the number of a refusal and zeros.
 #[repr(C)]
-#[derive(Drop)]
+#[derive(Clone, Copy)]
 pub struct Judged {
     pub refusal: u8,
     pub requests: usize,

@@ -17,7 +17,7 @@ use tree::Tree;
 // What is held of one ordered pair for each edge, at the place of the child: the lease number, the
 // cache for the near side, and the messages sent so far.
 #[repr(C)]
-#[derive(Drop)]
+#[derive(Clone, Copy)]
 pub struct Pairs {
     pub lease: [u8; 256],
     pub cache: [i64; 256],
@@ -27,7 +27,7 @@ pub struct Pairs {
 // A tree, the value of each node, the pairs from child to parent, those from parent to child, and
 // how many requests were accepted. Entries not used are zero.
 #[repr(C)]
-#[derive(Drop)]
+#[derive(Clone, Copy)]
 pub struct Session {
     pub tree: Tree,
     pub values: [i32; 256],
@@ -38,7 +38,7 @@ pub struct Session {
 
 // What starting a session answers: 0 and the session, or the number of a refusal.
 #[repr(C)]
-#[derive(Drop)]
+#[derive(Clone, Copy)]
 pub struct Started {
     pub refusal: u8,
     pub session: Session,

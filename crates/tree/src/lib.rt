@@ -14,7 +14,7 @@ ghost use Rattle.tree.specs.Sizes.{sizes};
 
 // The nodes are 0 to count - 1. Entry 0 of parents, and those from count on, are not used and zero.
 #[repr(C)]
-#[derive(Drop)]
+#[derive(Clone, Copy)]
 pub struct Tree {
     pub count: u16,
     pub parents: [u8; 256],
