@@ -5,8 +5,8 @@
 
 FOLDER is the Cargo project of the plain implementation; `cargo run --release -- --bench` there prints
 lines like `path 16 cold combine   1234 ns`. It is built in a temporary folder. The program `bench` of
-this repository is proved and built by `rt check bench`. It takes about two minutes, and an x86-64
-processor: the toolchain compiles for that alone, and under an emulator a time says nothing.
+this repository is proved and built first, by `rt run` in crates/bench. It takes about two minutes, and
+an x86-64 processor: the toolchain compiles for that alone, and under an emulator a time says nothing.
 
 How to read the table: a line is a request at the last node of a tree. `here` and `plain` are the
 nanoseconds of one request, the best of some rounds in which both are timed; here that is the time of
@@ -28,6 +28,7 @@ import tempfile
 import time
 
 HOUSE = pathlib.Path(__file__).resolve().parent.parent
+PROGRAM = HOUSE / "crates/bench/out/bench"
 ROUNDS = 9
 TIMES = 4000
 SIZES = (16, 64, 256)
@@ -61,7 +62,7 @@ def here(times):
         entries = table(tree, nodes)
         job = LETTERS[request].encode() + len(entries).to_bytes(3, "big") + times.to_bytes(4, "big") + entries
         start = time.perf_counter_ns()
-        subprocess.run([HOUSE / "target/bin/bench"], input=job, stdout=subprocess.DEVNULL, check=True)
+        subprocess.run([PROGRAM], input=job, stdout=subprocess.DEVNULL, check=True)
         taken[tree, nodes, request] = time.perf_counter_ns() - start
     return taken
 
@@ -83,7 +84,7 @@ def main():
         sys.exit(__doc__)
     if platform.machine() != "x86_64":
         sys.exit(f"bench/run.py needs an x86-64 processor: on {platform.machine()} it would time an emulator")
-    subprocess.run(["rt", "check", "bench"], cwd=HOUSE, stdout=subprocess.DEVNULL, check=True)
+    subprocess.run(["rt", "run"], cwd=HOUSE / "crates/bench", stdin=subprocess.DEVNULL, stdout=subprocess.DEVNULL, check=True)
     with tempfile.TemporaryDirectory() as target:
         rounds = [(here(TIMES), here(0), plain(sys.argv[1], target)) for _ in range(ROUNDS)]
     print(f"{'tree':8}{'nodes':>5}  {'request':26}{'here':>8}{'plain':>8}{'ratio':>7}")

@@ -1,8 +1,10 @@
 #!/usr/bin/env python3
 """Tests of tools/plain.py over the examples and the vectors, and of the program `rww` over the same.
 
-    python3 tools/test_plain.py                    the script, and the program if target/bin/rww is there
-    python3 tools/test_plain.py --program PATH     a program of one's choice, which must be there
+    python3 tools/test_plain.py                    the script, and the program crates/rww/out/rww
+    python3 tools/test_plain.py --program PATH     the script, and a program of one's choice
+
+The program must be there: `rt run </dev/null` in crates/rww builds it.
 
 It takes some seconds, and leaves nothing behind."""
 
@@ -19,7 +21,7 @@ import vectors
 import wrong_texts
 
 HOUSE = pathlib.Path(__file__).resolve().parent.parent
-PROGRAM = HOUSE / "target/bin/rww"
+PROGRAM = vectors.built("rww")
 EXAMPLES = ("path", "star", "room")
 TEXTS = ("tree.txt", "requests.txt")
 BYTES = vectors.BYTES
@@ -247,11 +249,7 @@ class Vectors(Case):
 
 class Program(Case):
     def printed(self, files):
-        return subprocess.run(["sh", HOUSE / "tools/launch", PROGRAM], cwd=self.folder(files), stdout=subprocess.PIPE, timeout=120).stdout
-
-    def setUp(self):
-        if not PROGRAM.exists():
-            self.skipTest(f"{PROGRAM}: is not there")
+        return subprocess.run([PROGRAM], cwd=self.folder(files), stdout=subprocess.PIPE, timeout=120).stdout
 
     def test_no_files(self):
         self.assertEqual(self.printed({}), b"table 1\n")

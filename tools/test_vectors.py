@@ -1,8 +1,10 @@
 #!/usr/bin/env python3
 """Tests of tools/vectors.py, which tries cases on the program `cases`: agreeing, differing and malformed ones, as text and as folders.
 
-    python3 tools/test_vectors.py                    with the program target/bin/cases, if it is there
-    python3 tools/test_vectors.py --program PATH     with a program of one's choice, which must be there
+    python3 tools/test_vectors.py                    with the program crates/cases/out/cases
+    python3 tools/test_vectors.py --program PATH     with a program of one's choice
+
+The program must be there: `rt run </dev/null` in crates/cases builds it.
 
 It takes some seconds, and leaves nothing behind."""
 
@@ -53,10 +55,6 @@ class Trying(testing.Case):
 
 
 class Program(Trying):
-    def setUp(self):
-        if not vectors.PROGRAM.exists():
-            self.skipTest(f"{vectors.PROGRAM}: is not there")
-
     def agree(self, folder, cases, lines):
         """All cases of a folder agree, and none is overlooked."""
         self.assertEqual(self.tried(folder), (0, [f"compared: {cases} cases, {lines} lines", "all agree"], ""))
@@ -188,7 +186,7 @@ class Refused(Trying):
     def test_no_program(self):
         folder = self.folder(as_text(self.own()))
         with unittest.mock.patch.object(vectors, "PROGRAM", folder / "cases"):
-            self.refused(folder, f"{folder}/cases: is not there; `rt check cases` builds it")
+            self.refused(folder, f"{folder}/cases: is not there; `rt run </dev/null` in crates/cases builds it")
 
     def test_programs_that_fail(self):
         """One that ends before the last case, says more than it is asked, or fails."""

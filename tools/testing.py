@@ -36,10 +36,11 @@ class Case(unittest.TestCase):
 
 
 def program(about, usual):
-    """The program that the command line names, which must be there, or the usual one. The other options are left to unittest."""
+    """The program that the command line names, or the usual one; it must be there. The other options are left to unittest."""
     parser = argparse.ArgumentParser(description=about, formatter_class=argparse.RawDescriptionHelpFormatter)
     parser.add_argument("--program", type=pathlib.Path, metavar="PATH")
     known, sys.argv[1:] = parser.parse_known_args()
-    if known.program and not known.program.exists():
-        sys.exit(f"{known.program}: is not there")
-    return (known.program or usual).resolve()
+    found = known.program or usual
+    if not found.exists():
+        sys.exit(f"{found}: is not there" + ("" if known.program else f"; {vectors.building(usual.name)}"))
+    return found.resolve()

@@ -15,12 +15,24 @@ import sys
 
 HOUSE = pathlib.Path(__file__).resolve().parent.parent
 FOLDER = HOUSE / "vectors"
-PROGRAM = HOUSE / "target/bin/cases"
 BYTES = ("tree.tab", "requests.lst")
 LINES = ("expected", "log.hex")
 ROOM = 65600  # the bytes of a case that the program has room for
 BATCH = 1000  # the cases that one run is handed; the program takes a million, marks included
 MARK = "no such case\n"
+
+
+def built(name):
+    """Where rt leaves a program of this repository."""
+    return HOUSE / "crates" / name / "out" / name
+
+
+def building(name):
+    """How such a program is built."""
+    return f"`rt run </dev/null` in crates/{name} builds it"
+
+
+PROGRAM = built("cases")
 
 
 class Fault(Exception):
@@ -125,7 +137,7 @@ def question(case):
 def answers(cases):
     """The lines that the program prints of each case. Behind each it is handed an unknown letter, and marks the place by saying so."""
     data = b"".join(question(case) + handed("?") for case in cases)
-    done = subprocess.run(["sh", HOUSE / "tools/launch", PROGRAM], input=data, stdout=subprocess.PIPE)
+    done = subprocess.run([PROGRAM], input=data, stdout=subprocess.PIPE)
     *found, rest = done.stdout.decode(errors="replace").split(MARK)
     if done.returncode or rest or len(found) != len(cases):
         raise Fault(f"{PROGRAM}: ended with status {done.returncode} after {len(found)} of {len(cases)} cases")
@@ -186,7 +198,7 @@ def attempt(folder):
     if not tried:
         raise Fault(f"{folder}: no case{' that the program has room for' if cases else ''}")
     if not PROGRAM.exists():
-        raise Fault(f"{PROGRAM}: is not there; `rt check cases` builds it")
+        raise Fault(f"{PROGRAM}: is not there; {building('cases')}")
     found = differences(tried)
     lines = sum(len(case.get(file, [])) for case in tried.values() for file in LINES)
     print(f"compared: {len(tried)} cases, {lines} lines")

@@ -8,7 +8,7 @@ use messages::Message;
 
 // A walk's sum, and the length of the trace after it.
 #[repr(C)]
-#[derive(Drop)]
+#[derive(Clone, Copy)]
 pub struct Asked {
     pub sum: i64,
     pub len: usize,

@@ -29,7 +29,7 @@ use session::Session;
 // What a request answers: 0, the answer (0 for a write), its messages and the next log place; or the
 // number of a refusal and zeros.
 #[repr(C)]
-#[derive(Drop)]
+#[derive(Clone, Copy)]
 pub struct Outcome {
     pub refusal: u8,
     pub answer: i64,
@@ -39,7 +39,7 @@ pub struct Outcome {
 
 // The outcome of a request, and the session after; as it came where the request is refused.
 #[repr(C)]
-#[derive(Drop)]
+#[derive(Clone, Copy)]
 pub struct Served {
     pub outcome: Outcome,
     pub session: Session,
@@ -47,7 +47,7 @@ pub struct Served {
 
 // How far a list came: requests done, answers stored, messages, and the next log place.
 #[repr(C)]
-#[derive(Drop)]
+#[derive(Clone, Copy)]
 pub struct Totals {
     pub requests: usize,
     pub answers: usize,
@@ -59,7 +59,7 @@ pub struct Totals {
 // request that was refused, 0 where none was; the totals so far, zeros where the list is refused as a
 // whole; and the session after.
 #[repr(C)]
-#[derive(Drop)]
+#[derive(Clone, Copy)]
 pub struct Ran {
     pub refusal: u8,
     pub index: usize,

@@ -8,7 +8,7 @@ use crate::reads;
 
 // Each node's first child, and the next child of its parent; the tree's count for none.
 #[repr(C)]
-#[derive(Drop)]
+#[derive(Clone, Copy)]
 pub struct Links {
     pub first: [u16; 256],
     pub next: [u16; 256],

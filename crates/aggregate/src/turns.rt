@@ -12,7 +12,7 @@ use session::Session;
 
 // How far a list came: the number of the refusal that ended it, 0 for none, and the totals so far.
 #[repr(C)]
-#[derive(Drop)]
+#[derive(Clone, Copy)]
 pub struct Course {
     pub refusal: u8,
     pub totals: Totals,

@@ -2,37 +2,41 @@
 //
 // A job on standard input is a letter, the number of its table's bytes in 3 bytes, how many times in
 // 4 bytes, and the table.
+#![tactic(auto)]
+
 mod input; // reading the jobs
 mod repeat; // one request, many times over
 
-use libc::STDOUT_FILENO;
 use session::{Session, Started};
+use std::io;
+use std::io::Read;
 use tree::Tree;
 
-// Does as many jobs as are there, at most a thousand.
-fn main() {
-    let mut left: usize = 1000;
-    while 0 < left {
-        left -= 1;
-        if !one() {
-            return;
+// Does as many jobs as are there, at most a thousand. What cannot be printed ends the program with
+// that error.
+fn main(rt: HostRuntime) -> io::Result<()> {
+    let mut input = rt.stdin();
+    for _ in 0..1000 {
+        if !one(&rt, &mut input)? {
+            return Ok(());
         }
     }
+    Ok(())
 }
 
 // Whether there was one more job.
-fn one() -> bool {
+fn one(rt: &impl Print, input: &mut impl Read) -> io::Result<bool> {
     let mut head = [0u8; 8];
     let mut space = [0u8; 256];
-    if input::full(&mut head) {
-        return input::job(&head, &mut space);
+    if input::full(input, &mut head) {
+        return input::job(rt, input, &head, &mut space);
     }
-    false
+    Ok(false)
 }
 
 // One job: its letter says which request is made of a session of the table's tree.
-fn run(letter: u8, times: u64, table: &[u8]) {
-    started(letter, times, loaded(table));
+fn run(rt: &impl Print, letter: u8, times: u64, table: &[u8]) -> io::Result<()> {
+    started(rt, letter, times, loaded(table))
 }
 
 fn loaded(table: &[u8]) -> Started {
@@ -43,19 +47,18 @@ fn loaded(table: &[u8]) -> Started {
     none.session.load(table)
 }
 
-fn started(letter: u8, times: u64, started: Started) {
+fn started(rt: &impl Print, letter: u8, times: u64, started: Started) -> io::Result<()> {
     let mut log = [0u8; 65536];
     if started.refusal == 0 {
-        return show(repeat::sum(letter, times, started.session, &mut log));
+        return show(rt, repeat::sum(letter, times, started.session, &mut log));
     }
-    text(b"no table\n");
+    text(rt, b"no table\n")
 }
 
-fn show(sum: u64) {
-    io::print_decimal(STDOUT_FILENO, sum);
-    text(b"\n");
+fn show(rt: &impl Print, sum: u64) -> io::Result<()> {
+    println!(rt; "{sum}")
 }
 
-fn text(text: &[u8]) {
-    io::write_all(STDOUT_FILENO, text);
+fn text(rt: &impl Print, text: &[u8]) -> io::Result<()> {
+    rt.write_all(text)
 }

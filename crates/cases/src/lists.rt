@@ -1,63 +1,65 @@
 // Lists: judged, and their requests handed out.
 use crate::show;
 use requests::{Item, Judged, Request};
+use std::io;
 
 // A list is judged, and its requests are handed out from the first place on.
-pub fn read(list: &[u8]) {
-    show::text(b"list");
-    show::bytes(list);
-    show::text(b":");
-    judged(requests::judge(list), list);
-    show::end();
+pub fn read(rt: &impl Print, list: &[u8]) -> io::Result<()> {
+    show::text(rt, b"list")?;
+    show::bytes(rt, list)?;
+    show::text(rt, b":")?;
+    judged(rt, requests::judge(list), list)?;
+    show::end(rt)
 }
 
-fn judged(judged: Judged, list: &[u8]) {
-    show::byte(judged.refusal);
+fn judged(rt: &impl Print, judged: Judged, list: &[u8]) -> io::Result<()> {
+    show::byte(rt, judged.refusal)?;
     if judged.refusal == 0 {
-        show::size(judged.requests);
-        show::text(b" requests,");
-        show::size(judged.combines);
-        show::text(b" combines, sum");
-        show::number(summed(list, judged.first, judged.requests));
+        show::size(rt, judged.requests)?;
+        show::text(rt, b" requests,")?;
+        show::size(rt, judged.combines)?;
+        show::text(rt, b" combines, sum")?;
+        show::number(rt, summed(list, judged.first, judged.requests))?;
     }
+    Ok(())
 }
 
 // Prints what stands at a place of a list.
-pub fn item(place: u64, list: &[u8]) {
-    show::text(b"item");
-    show::number(place);
-    show::text(b" of");
-    show::bytes(list);
-    show::text(b":");
+pub fn item(rt: &impl Print, place: u64, list: &[u8]) -> io::Result<()> {
+    show::text(rt, b"item")?;
+    show::number(rt, place)?;
+    show::text(rt, b" of")?;
+    show::bytes(rt, list)?;
+    show::text(rt, b":")?;
     match requests::request_at(list, place as usize) {
-        Item::Found(r, next) => found(r, next),
-        Item::Short => show::text(b" short"),
+        Item::Found(r, next) => found(rt, r, next)?,
+        Item::Short => show::text(rt, b" short")?,
     }
-    show::end();
+    show::end(rt)
 }
 
-fn found(r: Request, next: usize) {
-    request(r);
-    show::text(b" to");
-    show::size(next);
+fn found(rt: &impl Print, r: Request, next: usize) -> io::Result<()> {
+    request(rt, r)?;
+    show::text(rt, b" to")?;
+    show::size(rt, next)
 }
 
-fn request(r: Request) {
+fn request(rt: &impl Print, r: Request) -> io::Result<()> {
     match r {
-        Request::Combine(node) => combine(node),
-        Request::Write(node, value) => write(node, value),
+        Request::Combine(node) => combine(rt, node),
+        Request::Write(node, value) => write(rt, node, value),
     }
 }
 
-fn combine(node: u8) {
-    show::text(b" combine");
-    show::byte(node);
+fn combine(rt: &impl Print, node: u8) -> io::Result<()> {
+    show::text(rt, b" combine")?;
+    show::byte(rt, node)
 }
 
-fn write(node: u8, value: i32) {
-    show::text(b" write");
-    show::byte(node);
-    show::value32(value);
+fn write(rt: &impl Print, node: u8, value: i32) -> io::Result<()> {
+    show::text(rt, b" write")?;
+    show::byte(rt, node)?;
+    show::value32(rt, value)
 }
 
 // A sum over so many requests of a list.

@@ -1,24 +1,25 @@
 // Logs: messages written, and read.
 use crate::show;
 use messages::{Entry, Message, Recorded};
+use std::io;
 use twos::Decoded;
 
 // A message is written to the log, and read back. Its kind, sender and receiver are b in 2, 8 and 8
 // bits, its value is c in two's complement.
-pub fn write(place: u64, b: u64, c: u64, log: &mut [u8]) {
+pub fn write(rt: &impl Print, place: u64, b: u64, c: u64, log: &mut [u8]) -> io::Result<()> {
     let Decoded::Value(value) = twos::decode(c, 64) else {
-        return;
+        return Ok(());
     };
     let m = message(b / 65536 % 4, (b / 256 % 256) as u8, (b % 256) as u8, value);
-    show::text(b"write");
-    words(m);
-    show::text(b" at");
-    show::number(place);
-    show::text(b":");
-    let end = written(messages::write(log, place as usize, m));
-    show::bytes(log);
-    entry(messages::read(log, place as usize, end));
-    show::end();
+    show::text(rt, b"write")?;
+    words(rt, m)?;
+    show::text(rt, b" at")?;
+    show::number(rt, place)?;
+    show::text(rt, b":")?;
+    let end = written(rt, messages::write(log, place as usize, m))?;
+    show::bytes(rt, log)?;
+    entry(rt, messages::read(log, place as usize, end))?;
+    show::end(rt)
 }
 
 fn message(kind: u64, from: u8, to: u8, value: i64) -> Message {
@@ -35,51 +36,52 @@ fn message(kind: u64, from: u8, to: u8, value: i64) -> Message {
 }
 
 // Prints the place after the record, or the number of a refusal, and answers that place.
-fn written(w: Recorded) -> usize {
+fn written(rt: &impl Print, w: Recorded) -> io::Result<usize> {
     match w {
-        Recorded::Next(place) => next(place),
-        Recorded::Full => none(9),
-        Recorded::Misfit => none(11),
+        Recorded::Next(place) => next(rt, place),
+        Recorded::Full => none(rt, 9),
+        Recorded::Misfit => none(rt, 11),
     }
 }
 
-fn next(place: usize) -> usize {
-    show::size(place);
-    place
+fn next(rt: &impl Print, place: usize) -> io::Result<usize> {
+    show::size(rt, place)?;
+    Ok(place)
 }
 
-fn none(number: u64) -> usize {
-    show::text(b" refused");
-    show::number(number);
-    0
+fn none(rt: &impl Print, number: u64) -> io::Result<usize> {
+    show::text(rt, b" refused")?;
+    show::number(rt, number)?;
+    Ok(0)
 }
 
 // What stands in the log from a place on, up to an end or to what is refused, and how many messages
 // that are.
-pub fn read(place: u64, end: u64, log: &[u8]) {
-    show::text(b"read");
-    show::number(place);
-    show::number(end);
-    show::text(b" of");
-    show::bytes(log);
-    show::text(b":");
-    all(place as usize, end as usize, log);
-    show::size(count(place as usize, end as usize, log));
-    show::end();
+pub fn read(rt: &impl Print, place: u64, end: u64, log: &[u8]) -> io::Result<()> {
+    show::text(rt, b"read")?;
+    show::number(rt, place)?;
+    show::number(rt, end)?;
+    show::text(rt, b" of")?;
+    show::bytes(rt, log)?;
+    show::text(rt, b":")?;
+    all(rt, place as usize, end as usize, log)?;
+    show::size(rt, count(place as usize, end as usize, log))?;
+    show::end(rt)
 }
 
-fn all(place: usize, end: usize, log: &[u8]) {
+fn all(rt: &impl Print, place: usize, end: usize, log: &[u8]) -> io::Result<()> {
     let mut at = place;
     let mut left: usize = 1000;
     while 0 < left {
         left -= 1;
         let e = messages::read(log, at, end);
-        entry(e);
+        entry(rt, e)?;
         let Entry::Read(_, next) = e else {
-            return;
+            return Ok(());
         };
         at = next;
     }
+    Ok(())
 }
 
 // How many messages stand in the log from a place on: a usable log has room for no more than 29,127.
@@ -96,37 +98,37 @@ fn count(place: usize, end: usize, log: &[u8]) -> usize {
     n
 }
 
-fn entry(e: Entry) {
+fn entry(rt: &impl Print, e: Entry) -> io::Result<()> {
     match e {
-        Entry::Read(m, next) => found(m, next),
-        Entry::End => show::text(b" end"),
-        Entry::Short => show::text(b" refused 1"),
+        Entry::Read(m, next) => found(rt, m, next),
+        Entry::End => show::text(rt, b" end"),
+        Entry::Short => show::text(rt, b" refused 1"),
     }
 }
 
-fn found(m: Message, next: usize) {
-    words(m);
-    show::text(b" to");
-    show::size(next);
-    show::text(b",");
+fn found(rt: &impl Print, m: Message, next: usize) -> io::Result<()> {
+    words(rt, m)?;
+    show::text(rt, b" to")?;
+    show::size(rt, next)?;
+    show::text(rt, b",")
 }
 
-fn words(m: Message) {
+fn words(rt: &impl Print, m: Message) -> io::Result<()> {
     match m {
-        Message::Probe(from, to) => ends(b" probe", from, to),
-        Message::Response(from, to, value) => with_value(b" response", from, to, value),
-        Message::Update(from, to, value) => with_value(b" update", from, to, value),
-        Message::Release(from, to) => ends(b" release", from, to),
+        Message::Probe(from, to) => ends(rt, b" probe", from, to),
+        Message::Response(from, to, value) => with_value(rt, b" response", from, to, value),
+        Message::Update(from, to, value) => with_value(rt, b" update", from, to, value),
+        Message::Release(from, to) => ends(rt, b" release", from, to),
     }
 }
 
-fn ends(kind: &[u8], from: u8, to: u8) {
-    show::text(kind);
-    show::byte(from);
-    show::byte(to);
+fn ends(rt: &impl Print, kind: &[u8], from: u8, to: u8) -> io::Result<()> {
+    show::text(rt, kind)?;
+    show::byte(rt, from)?;
+    show::byte(rt, to)
 }
 
-fn with_value(kind: &[u8], from: u8, to: u8, value: i64) {
-    ends(kind, from, to);
-    show::value(value);
+fn with_value(rt: &impl Print, kind: &[u8], from: u8, to: u8, value: i64) -> io::Result<()> {
+    ends(rt, kind, from, to)?;
+    show::value(rt, value)
 }

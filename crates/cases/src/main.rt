@@ -1,6 +1,8 @@
 // Runs the cases on standard input and prints what comes of each.
 //
 // A case is a letter, the number of its bytes in 3 bytes, three numbers of 8 bytes, and its bytes.
+#![tactic(auto)]
+
 mod change; // sessions with one entry changed
 mod input; // reading the cases
 mod lists;
@@ -12,64 +14,68 @@ mod show; // printing
 mod tables;
 mod vectors; // outside vectors
 
-// Runs as many cases as are there, at most a million.
-fn main() {
-    let mut left: usize = 1000000;
-    while 0 < left {
-        left -= 1;
-        if !one() {
-            return;
+use std::io;
+use std::io::Read;
+
+// Runs as many cases as are there, at most a million. What cannot be printed ends the program with
+// that error.
+fn main(rt: HostRuntime) -> io::Result<()> {
+    let mut input = rt.stdin();
+    for _ in 0..1000000 {
+        if !one(&rt, &mut input)? {
+            return Ok(());
         }
     }
+    Ok(())
 }
 
 // Whether there was one more case.
-fn one() -> bool {
+fn one(rt: &impl Print, input: &mut impl Read) -> io::Result<bool> {
     let mut head = [0u8; 28];
     let mut space = [0u8; 65600];
-    if input::head(&mut head) {
-        return input::body(&head, &mut space);
+    if input::head(input, &mut head) {
+        return input::body(rt, input, &head, &mut space);
     }
-    false
+    Ok(false)
 }
 
 // One case: its letter says what is done with the numbers and the bytes.
-fn run(letter: u8, a: u64, b: u64, c: u64, bytes: &mut [u8]) {
+fn run(rt: &impl Print, letter: u8, a: u64, b: u64, c: u64, bytes: &mut [u8]) -> io::Result<()> {
     if letter == b'F' {
-        return numbers::field(a, b, c, bytes);
+        return numbers::field(rt, a, b, c, bytes);
     }
     if letter == b'S' {
-        return numbers::sign(a, b);
+        return numbers::sign(rt, a, b);
     }
     if letter == b'T' {
-        return tables::read(bytes);
+        return tables::read(rt, bytes);
     }
     if letter == b'W' {
-        return tables::write(a, b, c, bytes);
+        return tables::write(rt, a, b, c, bytes);
     }
     if letter == b'L' {
-        return lists::read(bytes);
+        return lists::read(rt, bytes);
     }
     if letter == b'I' {
-        return lists::item(a, bytes);
+        return lists::item(rt, a, bytes);
     }
     if letter == b'M' {
-        return logs::write(a, b, c, bytes);
+        return logs::write(rt, a, b, c, bytes);
     }
     if letter == b'R' {
-        return logs::read(a, b, bytes);
+        return logs::read(rt, a, b, bytes);
     }
     if letter == b'Q' {
-        return sessions::serve(a, b, c, bytes);
+        return sessions::serve(rt, a, b, c, bytes);
     }
     if letter == b'U' {
-        return sessions::unsound(a, b, c, bytes);
+        return sessions::unsound(rt, a, b, c, bytes);
     }
     if letter == b'N' {
-        return runs::run(a, b, c, bytes);
+        return runs::run(rt, a, b, c, bytes);
     }
     if letter == b'V' {
-        return vectors::serve(a, b, bytes);
+        return vectors::serve(rt, a, b, bytes);
     }
-    show::text(b"no such case\n");
+    show::text(rt, b"no such case\n")
 }

@@ -2,30 +2,37 @@
 use crate::{sessions, show};
 use aggregate::Ran;
 use session::Session;
+use std::io;
 
 // The first bytes are the table, the rest is the list. It is logged from place on in a log of `sizes`
 // modulo 2^32 bytes, and has the rest of `sizes` answer places.
-pub fn run(table: u64, place: u64, sizes: u64, bytes: &[u8]) {
-    show::text(b"run");
+pub fn run(rt: &impl Print, table: u64, place: u64, sizes: u64, bytes: &[u8]) -> io::Result<()> {
+    show::text(rt, b"run")?;
     let size = table as usize;
     if size <= bytes.len() {
         let session = sessions::other().load(&bytes[..size]).session;
-        lent(session, place as usize, sizes, &bytes[size..]);
+        lent(rt, session, place as usize, sizes, &bytes[size..])?;
     }
-    show::end();
+    show::end(rt)
 }
 
 // What was lent has a mark in every place, so that what is changed can be seen.
-fn lent(session: Session, place: usize, sizes: u64, list: &[u8]) {
+fn lent(
+    rt: &impl Print,
+    session: Session,
+    place: usize,
+    sizes: u64,
+    list: &[u8],
+) -> io::Result<()> {
     let mut log = [170u8; 65600];
     let mut answers = [7i64; 4096];
     let ran = part(session, list, sizes, &mut answers, &mut log, place);
-    totals(ran);
-    show::text(b" answers");
-    show::number(summed(&answers));
-    show::text(b" log");
-    show::bytes(&log);
-    sessions::held(ran.session);
+    totals(rt, ran)?;
+    show::text(rt, b" answers")?;
+    show::number(rt, summed(&answers))?;
+    show::text(rt, b" log")?;
+    show::bytes(rt, &log)?;
+    sessions::held(rt, ran.session)
 }
 
 fn part(
@@ -58,14 +65,14 @@ fn part_of(
     aggregate::run(session, list, answers, log, place)
 }
 
-pub fn totals(ran: Ran) {
-    show::text(b"\n ");
-    show::byte(ran.refusal);
-    show::size(ran.index);
-    show::size(ran.totals.requests);
-    show::size(ran.totals.answers);
-    show::number(ran.totals.messages as u64);
-    show::size(ran.totals.next);
+pub fn totals(rt: &impl Print, ran: Ran) -> io::Result<()> {
+    show::text(rt, b"\n ")?;
+    show::byte(rt, ran.refusal)?;
+    show::size(rt, ran.index)?;
+    show::size(rt, ran.totals.requests)?;
+    show::size(rt, ran.totals.answers)?;
+    show::number(rt, ran.totals.messages as u64)?;
+    show::size(rt, ran.totals.next)
 }
 
 fn summed(answers: &[i64]) -> u64 {

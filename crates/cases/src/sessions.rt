@@ -3,50 +3,58 @@ use crate::{change, runs, show};
 use aggregate::Served;
 use requests::{Item, Request};
 use session::Session;
+use std::io;
 use tree::Tree;
 
 // The first bytes are the table, the rest is the list. Each request is logged from place on in zeros
 // of so many bytes.
-pub fn serve(table: u64, place: u64, room: u64, bytes: &[u8]) {
-    show::text(b"session");
+pub fn serve(rt: &impl Print, table: u64, place: u64, room: u64, bytes: &[u8]) -> io::Result<()> {
+    show::text(rt, b"session")?;
     let size = table as usize;
     if size <= bytes.len() {
         loaded(
+            rt,
             &bytes[..size],
             place as usize,
             room as usize,
             &bytes[size..],
-        );
+        )?;
     }
-    show::end();
+    show::end(rt)
 }
 
-fn loaded(table: &[u8], place: usize, room: usize, list: &[u8]) {
-    show::bytes(table);
-    show::text(b":");
+fn loaded(rt: &impl Print, table: &[u8], place: usize, room: usize, list: &[u8]) -> io::Result<()> {
+    show::bytes(rt, table)?;
+    show::text(rt, b":")?;
     let started = other().load(table);
-    show::byte(started.refusal);
+    show::byte(rt, started.refusal)?;
     if started.refusal == 0 {
-        show::byte(requests::judge(list).refusal);
-        return held(run(started.session, place, room, list));
+        show::byte(rt, requests::judge(list).refusal)?;
+        return held(rt, run(rt, started.session, place, room, list)?);
     }
-    held(started.session);
+    held(rt, started.session)
 }
 
 // A table is loaded and a list served, then one entry of the session is changed, and what each call
 // answers to it is printed.
-pub fn unsound(table: u64, entry: u64, value: u64, bytes: &[u8]) {
-    show::text(b"changed");
-    show::number(entry);
-    show::number(value);
-    show::text(b":");
+pub fn unsound(
+    rt: &impl Print,
+    table: u64,
+    entry: u64,
+    value: u64,
+    bytes: &[u8],
+) -> io::Result<()> {
+    show::text(rt, b"changed")?;
+    show::number(rt, entry)?;
+    show::number(rt, value)?;
+    show::text(rt, b":")?;
     let size = table as usize;
     if size <= bytes.len() {
         let started = other().load(&bytes[..size]);
-        let session = run(started.session, 0, 2423, &bytes[size..]);
-        calls(change::entry(session, entry, value));
+        let session = run(rt, started.session, 0, 2423, &bytes[size..])?;
+        calls(rt, change::entry(session, entry, value))?;
     }
-    show::end();
+    show::end(rt)
 }
 
 // A session that is to be replaced.
@@ -62,7 +70,13 @@ pub fn other() -> Session {
 }
 
 // The requests of an accepted list, up to the first that is refused.
-fn run(session: Session, place: usize, room: usize, list: &[u8]) -> Session {
+fn run(
+    rt: &impl Print,
+    session: Session,
+    place: usize,
+    room: usize,
+    list: &[u8],
+) -> io::Result<Session> {
     let judged = requests::judge(list);
     let mut session = session;
     let mut at = judged.first;
@@ -70,26 +84,32 @@ fn run(session: Session, place: usize, room: usize, list: &[u8]) -> Session {
     while 0 < left {
         left -= 1;
         let Item::Found(request, next) = requests::request_at(list, at) else {
-            return session;
+            return Ok(session);
         };
-        let served = one(session, request, place, room);
+        let served = one(rt, session, request, place, room)?;
         if served.outcome.refusal != 0 {
-            return served.session;
+            return Ok(served.session);
         }
         session = served.session;
         at = next;
     }
-    session
+    Ok(session)
 }
 
 // One request, and what it answers and logs.
-fn one(session: Session, request: Request, place: usize, room: usize) -> Served {
+fn one(
+    rt: &impl Print,
+    session: Session,
+    request: Request,
+    place: usize,
+    room: usize,
+) -> io::Result<Served> {
     let mut log = [0u8; 2500];
     let served = roomy(session, request, place, room, &mut log);
-    outcome(served);
-    show::text(b" log");
-    show::bytes(&log);
-    served
+    outcome(rt, served)?;
+    show::text(rt, b" log")?;
+    show::bytes(rt, &log)?;
+    Ok(served)
 }
 
 fn roomy(session: Session, request: Request, place: usize, room: usize, log: &mut [u8]) -> Served {
@@ -106,25 +126,31 @@ pub fn asked(session: Session, request: Request, log: &mut [u8], place: usize) -
     }
 }
 
-fn outcome(served: Served) {
-    show::text(b"\n ");
-    show::byte(served.outcome.refusal);
-    show::value(served.outcome.answer);
-    show::number(served.outcome.messages as u64);
-    show::size(served.outcome.next);
+fn outcome(rt: &impl Print, served: Served) -> io::Result<()> {
+    show::text(rt, b"\n ")?;
+    show::byte(rt, served.outcome.refusal)?;
+    show::value(rt, served.outcome.answer)?;
+    show::number(rt, served.outcome.messages as u64)?;
+    show::size(rt, served.outcome.next)
 }
 
 // What a session holds: its count of requests, and sums over its arrays.
-pub fn held(session: Session) {
-    show::text(b"\n  holds");
-    show::number(session.accepted as u64);
-    show::number(values(&session.values));
-    show::number(pairs(&session.up.lease, &session.up.cache, &session.up.messages));
-    show::number(pairs(
-        &session.down.lease,
-        &session.down.cache,
-        &session.down.messages,
-    ));
+pub fn held(rt: &impl Print, session: Session) -> io::Result<()> {
+    show::text(rt, b"\n  holds")?;
+    show::number(rt, session.accepted as u64)?;
+    show::number(rt, values(&session.values))?;
+    show::number(
+        rt,
+        pairs(&session.up.lease, &session.up.cache, &session.up.messages),
+    )?;
+    show::number(
+        rt,
+        pairs(
+            &session.down.lease,
+            &session.down.cache,
+            &session.down.messages,
+        ),
+    )
 }
 
 fn values(values: &[i32; 256]) -> u64 {
@@ -168,16 +194,19 @@ fn wide(x: u32) -> u64 {
 }
 
 // What each call answers to one session.
-fn calls(session: Session) {
+fn calls(rt: &impl Print, session: Session) -> io::Result<()> {
     let mut table = [0u8; 226];
     let mut log = [0u8; 2423];
-    show::flag(session.is_sound());
+    show::flag(rt, session.is_sound())?;
     let written = session.write_table(&mut table);
-    show::byte(written.refusal);
-    show::size(written.bytes);
-    show::bytes(&table);
-    outcome(aggregate::combine(session, 0, &mut log, 0));
-    outcome(aggregate::write(session, 0, -1, &mut log, 0));
-    runs::totals(aggregate::run(session, &[0, 0], &mut [0; 0], &mut log, 0));
-    show::bytes(&log);
+    show::byte(rt, written.refusal)?;
+    show::size(rt, written.bytes)?;
+    show::bytes(rt, &table)?;
+    outcome(rt, aggregate::combine(session, 0, &mut log, 0))?;
+    outcome(rt, aggregate::write(session, 0, -1, &mut log, 0))?;
+    runs::totals(
+        rt,
+        aggregate::run(session, &[0, 0], &mut [0; 0], &mut log, 0),
+    )?;
+    show::bytes(rt, &log)
 }

@@ -1,94 +1,94 @@
 // Printing.
-use libc::STDOUT_FILENO;
+use std::io;
 use twos::Encoded;
 
-pub fn text(text: &[u8]) {
-    io::write_all(STDOUT_FILENO, text);
+pub fn text(rt: &impl Print, text: &[u8]) -> io::Result<()> {
+    rt.write_all(text)
 }
 
 // The end of a line.
-pub fn end() {
-    text(b"\n");
+pub fn end(rt: &impl Print) -> io::Result<()> {
+    text(rt, b"\n")
 }
 
 // A number in decimal, behind a blank.
-pub fn number(n: u64) {
-    text(b" ");
-    io::print_decimal(STDOUT_FILENO, n);
+pub fn number(rt: &impl Print, n: u64) -> io::Result<()> {
+    print!(rt; " {n}")
 }
 
-pub fn size(n: usize) {
-    number(n as u64);
+pub fn size(rt: &impl Print, n: usize) -> io::Result<()> {
+    number(rt, n as u64)
 }
 
-pub fn byte(x: u8) {
-    number(wide(x));
+pub fn byte(rt: &impl Print, x: u8) -> io::Result<()> {
+    number(rt, wide(x))
 }
 
-pub fn flag(yes: bool) {
+pub fn flag(rt: &impl Print, yes: bool) -> io::Result<()> {
     if yes {
-        text(b" yes");
+        text(rt, b" yes")
     } else {
-        text(b" no");
+        text(rt, b" no")
     }
 }
 
 // A value in decimal, behind a blank.
-pub fn value(value: i64) {
-    signed(twos::encode(value, 64));
+pub fn value(rt: &impl Print, value: i64) -> io::Result<()> {
+    signed(rt, twos::encode(value, 64))
 }
 
-pub fn value32(value: i32) {
-    signed(twos::encode32(value, 64));
+pub fn value32(rt: &impl Print, value: i32) -> io::Result<()> {
+    signed(rt, twos::encode32(value, 64))
 }
 
 // A value by the 64 bits that stand for it: those of the lower half are the value itself.
-fn signed(encoded: Encoded) {
+fn signed(rt: &impl Print, encoded: Encoded) -> io::Result<()> {
     let Encoded::Number(n) = encoded else {
-        return;
+        return Ok(());
     };
     if n < 9223372036854775808 {
-        number(n);
+        number(rt, n)
     } else {
-        text(b" -");
-        io::print_decimal(STDOUT_FILENO, 18446744073709551615 - n + 1);
+        print!(rt; " -{}", 18446744073709551615 - n + 1)
     }
 }
 
 // Bytes in hexadecimal, each behind a blank; of many, how many there are and a sum over them.
-pub fn bytes(bytes: &[u8]) {
+pub fn bytes(rt: &impl Print, bytes: &[u8]) -> io::Result<()> {
     if bytes.len() <= 32 {
-        return hexadecimal(bytes);
+        return hexadecimal(rt, bytes);
     }
-    size(bytes.len());
-    text(b" bytes, sum");
-    number(summed(bytes));
+    size(rt, bytes.len())?;
+    text(rt, b" bytes, sum")?;
+    number(rt, summed(bytes))
 }
 
-fn hexadecimal(bytes: &[u8]) {
+fn hexadecimal(rt: &impl Print, bytes: &[u8]) -> io::Result<()> {
     for i in 0..bytes.len() {
-        pair(bytes[i]);
+        pair(rt, bytes[i])?;
     }
+    Ok(())
 }
 
-fn pair(x: u8) {
-    text(b" ");
-    two(x);
+fn pair(rt: &impl Print, x: u8) -> io::Result<()> {
+    text(rt, b" ")?;
+    two(rt, x)
 }
 
 // Bytes in hexadecimal, behind one blank; a dash for none.
-pub fn digits(bytes: &[u8]) {
+pub fn digits(rt: &impl Print, bytes: &[u8]) -> io::Result<()> {
     if bytes.len() == 0 {
-        return text(b" -");
+        return text(rt, b" -");
     }
-    text(b" ");
+    text(rt, b" ")?;
     for i in 0..bytes.len() {
-        two(bytes[i]);
+        two(rt, bytes[i])?;
     }
+    Ok(())
 }
 
-fn two(x: u8) {
-    io::print_hex(STDOUT_FILENO, wide(x), 2);
+fn two(rt: &impl Print, x: u8) -> io::Result<()> {
+    print!(rt; "{x:02x}")
 }
 
 fn summed(bytes: &[u8]) -> u64 {

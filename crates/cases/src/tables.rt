@@ -1,58 +1,60 @@
 // Tables: read, and written.
 use crate::show;
 use session::{Session, Started};
+use std::io;
 use table::{Reading, Written};
 use tree::Tree;
 
 // A table is read, and the tree is written into bytes of ones.
-pub fn read(bytes: &[u8]) {
-    show::text(b"table");
-    show::bytes(bytes);
-    show::text(b":");
-    back(table::read(bytes));
-    show::end();
+pub fn read(rt: &impl Print, bytes: &[u8]) -> io::Result<()> {
+    show::text(rt, b"table")?;
+    show::bytes(rt, bytes)?;
+    show::text(rt, b":")?;
+    back(rt, table::read(bytes))?;
+    show::end(rt)
 }
 
-fn back(reading: Reading) {
-    show::byte(reading.refusal);
+fn back(rt: &impl Print, reading: Reading) -> io::Result<()> {
+    show::byte(rt, reading.refusal)?;
     if reading.refusal == 0 {
-        show::number(reading.tree.count as u64);
-        show::text(b" nodes, back");
-        into_ones(reading.tree);
+        show::number(rt, reading.tree.count as u64)?;
+        show::text(rt, b" nodes, back")?;
+        into_ones(rt, reading.tree)?;
     }
+    Ok(())
 }
 
-fn into_ones(tree: Tree) {
+fn into_ones(rt: &impl Print, tree: Tree) -> io::Result<()> {
     let mut out = [255u8; 256];
-    answer(table::write(tree, &mut out));
-    show::bytes(&out);
+    answer(rt, table::write(tree, &mut out))?;
+    show::bytes(rt, &out)
 }
 
 // The tree of so many nodes in which each node but the first has so many children, as far as they
 // go, is written into the bytes; entry c is made 255 before. Then a session is started from it.
-pub fn write(count: u64, children: u64, c: u64, out: &mut [u8]) {
-    show::text(b"tree");
-    show::number(count);
-    show::number(children);
-    show::number(c);
-    show::text(b":");
+pub fn write(rt: &impl Print, count: u64, children: u64, c: u64, out: &mut [u8]) -> io::Result<()> {
+    show::text(rt, b"tree")?;
+    show::number(rt, count)?;
+    show::number(rt, children)?;
+    show::number(rt, c)?;
+    show::text(rt, b":")?;
     let tree = grown(count % 65536, children, c);
-    answer(table::write(tree, out));
-    show::bytes(out);
-    started(Session::fresh(tree));
-    show::end();
+    answer(rt, table::write(tree, out))?;
+    show::bytes(rt, out)?;
+    started(rt, Session::fresh(tree))?;
+    show::end(rt)
 }
 
-fn started(started: Started) {
-    show::text(b" session");
-    show::byte(started.refusal);
-    show::number(started.session.tree.count as u64);
+fn started(rt: &impl Print, started: Started) -> io::Result<()> {
+    show::text(rt, b" session")?;
+    show::byte(rt, started.refusal)?;
+    show::number(rt, started.session.tree.count as u64)
 }
 
-fn answer(written: Written) {
-    show::byte(written.refusal);
-    show::size(written.bytes);
-    show::text(b" bytes,");
+fn answer(rt: &impl Print, written: Written) -> io::Result<()> {
+    show::byte(rt, written.refusal)?;
+    show::size(rt, written.bytes)?;
+    show::text(rt, b" bytes,")
 }
 
 fn grown(count: u64, children: u64, c: u64) -> Tree {

@@ -14,7 +14,7 @@ ghost use Rattle.fields.specs.Usable.{takes, field_at, put_at};
 pub use room::usable_bits;
 
 // What reading a field finds.
-#[derive(Drop)]
+#[derive(Clone, Copy)]
 pub enum Field {
     Value(u64),
     // the usable bytes end before the field does, or it is wider than 64 bits

@@ -25,7 +25,7 @@ pub enum Message {
 }
 
 // A message as a number.
-#[derive(Drop)]
+#[derive(Clone, Copy)]
 pub enum Coded {
     // the message's record, with zero bits behind it up to 58
     Number(u64),
@@ -34,7 +34,7 @@ pub enum Coded {
 }
 
 // What writing a message answers.
-#[derive(Drop)]
+#[derive(Clone, Copy)]
 pub enum Recorded {
     // the place after the message's record
     Next(usize),

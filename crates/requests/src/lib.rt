@@ -19,7 +19,7 @@ pub enum Request {
 }
 
 // What stands at a place of a list.
-#[derive(Drop)]
+#[derive(Clone, Copy)]
 pub enum Item {
     // a request, and the place after it
     Found(Request, usize),
@@ -30,7 +30,7 @@ pub enum Item {
 // What judging a list answers: 0, how many requests it has, how many of them are combines, and the
 // place of the first; or the number of a refusal and zeros.
 #[repr(C)]
-#[derive(Drop)]
+#[derive(Clone, Copy)]
 pub struct Judged {
     pub refusal: u8,
     pub requests: usize,

@@ -8,7 +8,7 @@
 ghost use Rattle.std.specs.Prelude.{◌≡◌, replicate};
 ghost use Rattle.rule.specs.Pair.{combine, write, number_after};
 
-#[derive(Drop)]
+#[derive(Clone, Copy)]
 pub struct Rule {}
 
 impl Rule {

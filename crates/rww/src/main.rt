@@ -2,24 +2,29 @@
 //
 // The table is the file `tree.tab` and the list the file `requests.lst`, both of the current folder.
 // Of each file at most one byte more is read than the longest that can be accepted has: 225 bytes of
-// table, 20,994 of list. That decides as the whole file does (`Table-first-bytes` and
-// `List-first-bytes`).
+// table, 20,994 of list. That decides as the whole file does (`TableFirstBytes` and
+// `ListFirstBytes`).
+#![tactic(auto)]
+
 mod files; // reading a file
 mod serve; // the requests of a list
 mod show; // printing
 
 use session::{Session, Started};
+use std::io;
+use std::rt::Files;
 use tree::Tree;
 
-// The table is judged first: where it is refused, the list is not read.
-fn main() {
+// The table is judged first: where it is refused, the list is not read. What cannot be printed ends
+// the program with that error.
+fn main(rt: HostRuntime) -> io::Result<()> {
     let mut room = [0u8; 226];
-    let size = files::read(b"tree.tab", &mut room);
+    let size = files::read(&rt, "tree.tab", &mut room);
     let started = loaded(&room[..size]);
     if started.refusal != 0 {
-        return show::table_refused(started.refusal);
+        return show::table_refused(&rt, started.refusal);
     }
-    requests(started.session);
+    requests(&rt, started.session)
 }
 
 // A session of the table's tree, which replaces one of no nodes.
@@ -31,8 +36,8 @@ fn loaded(table: &[u8]) -> Started {
     none.session.load(table)
 }
 
-fn requests(session: Session) {
+fn requests(rt: &(impl Files + Print), session: Session) -> io::Result<()> {
     let mut room = [0u8; 20995];
-    let size = files::read(b"requests.lst", &mut room);
-    serve::list(session, &room[..size]);
+    let size = files::read(rt, "requests.lst", &mut room);
+    serve::list(rt, session, &room[..size])
 }

@@ -3,12 +3,13 @@ use crate::show;
 use aggregate::Served;
 use requests::{Item, Request};
 use session::Session;
+use std::io;
 
 // Judges a list, then serves its requests up to the first that is refused.
-pub fn list(session: Session, list: &[u8]) {
+pub fn list(rt: &impl Print, session: Session, list: &[u8]) -> io::Result<()> {
     let judged = requests::judge(list);
     if judged.refusal != 0 {
-        return show::list_refused(judged.refusal);
+        return show::list_refused(rt, judged.refusal);
     }
     let mut session = session;
     let mut place = judged.first;
@@ -17,19 +18,19 @@ pub fn list(session: Session, list: &[u8]) {
     while index < judged.requests {
         // An accepted list has every request.
         let Item::Found(request, next) = requests::request_at(list, place) else {
-            return;
+            return Ok(());
         };
         let served = one(session, request);
         if served.outcome.refusal != 0 {
-            return show::request_refused(index, served.outcome.refusal);
+            return show::request_refused(rt, index, served.outcome.refusal);
         }
-        show::request(request, served.outcome);
+        show::request(rt, request, served.outcome)?;
         session = served.session;
         place = next;
         sum += served.outcome.messages as u64;
         index += 1;
     }
-    show::total(sum);
+    show::total(rt, sum)
 }
 
 // One request, with a log of its own: from bit 0 on, with room for the 19,380 bits that a request

@@ -40,7 +40,7 @@ pub struct Session {
 
 // What starting a session answers: 0 and the session, or the number of a refusal.
 #[repr(C)]
-#[derive(Drop)]
+#[derive(Clone, Copy)]
 pub struct Started {
     pub refusal: u8,
     pub session: Session,

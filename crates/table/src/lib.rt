@@ -16,7 +16,7 @@ use tree::Tree;
 
 // What reading answers: 0 and the tree, or the number of a refusal and zeros.
 #[repr(C)]
-#[derive(Drop)]
+#[derive(Clone, Copy)]
 pub struct Reading {
     pub refusal: u8,
     pub tree: Tree,
@@ -24,7 +24,7 @@ pub struct Reading {
 
 // What writing answers: 0 and the bytes written, or the number of a refusal and 0.
 #[repr(C)]
-#[derive(Drop)]
+#[derive(Clone, Copy)]
 pub struct Written {
     pub refusal: u8,
     pub bytes: usize,

@@ -11,7 +11,7 @@ ghost use Rattle.trace.specs.inner.Traces as spec;
 use messages::{Coded, Message, Recorded};
 
 // What logging a trace answers.
-#[derive(Drop)]
+#[derive(Clone, Copy)]
 pub enum Logged {
     // the place after the trace's last record
     Next(usize),

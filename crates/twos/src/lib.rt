@@ -9,7 +9,7 @@ ghost use Rattle.std.specs.Prelude.{◌≡◌};
 ghost use Rattle.twos.specs.Twos.{encoded, decoded, decoded32};
 
 // What a signed value is in a field of so many bits.
-#[derive(Drop)]
+#[derive(Clone, Copy)]
 pub enum Encoded {
     Number(u64),
     // the value has no place in the field, or the field is not 1 to 64 bits wide
@@ -17,7 +17,7 @@ pub enum Encoded {
 }
 
 // What the number in a field of so many bits stands for.
-#[derive(Drop)]
+#[derive(Clone, Copy)]
 pub enum Decoded {
     Value(i64),
     // the field has no such number, or is not 1 to 64 bits wide
@@ -25,7 +25,7 @@ pub enum Decoded {
 }
 
 // What the number in a field of so many bits stands for, as an i32.
-#[derive(Drop)]
+#[derive(Clone, Copy)]
 pub enum Decoded32 {
     Value(i32),
     // the field has no such number, or is not 1 to 64 bits wide, or the value has no place in an i32
