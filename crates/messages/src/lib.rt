@@ -75,6 +75,7 @@ pub fn code(message: Message) -> Coded
 }
 
 // The message of a number of 58 bits.
+#[tactic(auto, unfolding(crate::specs::Reading::decoded, crate::specs::Reading::message_of))]
 pub fn decode(number: u64) -> Message
     ensures { result ≡ decoded number }
 {
