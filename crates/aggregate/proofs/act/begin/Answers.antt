@@ -3,6 +3,8 @@ use mathlib.Core.Path.{refl}
 use lib.Signed.{mag}
 use mir.Facts.{to_z-of_z}
 use mir.Syntax.{w32}
+use mir.Val.{SFits}
+use borrow.Author.Rules.{rules}
 use borrow.Author.Tests.{lt-ltb}
 use Rattle.aggregate.proofs.act.begin.Goals as goal
 
@@ -11,7 +13,5 @@ returns-in-Combine c = rw c.in-Combine.is (refl, tt)
 
 pub returns-in-Write : goal.returns-in-Write
 returns-in-Write c =
-    let m = c.act-1.given in
-    let small = c.known_told-1.given.0.1 in
-    let same = to_z-of_z {w = w32} {z = m.0.0} (record { sfits = small }) in
-    rw (m.1, same) (refl, lt-ltb (mag m.0.0) 2147483648 small)
+    let small : SFits w32 c.in-Write.value = search rules in
+    rw (c.in-Write.is, to_z-of_z {w = w32} {z = c.in-Write.value} small) (refl, lt-ltb (mag c.in-Write.value) 2147483648 small.sfits)

@@ -2,7 +2,9 @@
 use mathlib.Core.Path.{◌∙◌}
 use lib.IntN.{pos}
 use lib.Seq.{set-get_or}
-use Rattle.messages.proofs.Parts.{handed_on}
+use borrow.Author.Rules.{rules}
+use mir.Facts.{to_z-of_z}
+use mir.Syntax.{w64}
 use Rattle.mechanism.specs.Applying.{hit}
 use Rattle.aggregate.proofs.ByRule.{after_write_lem}
 use Rattle.aggregate.proofs.apply.hit.Goals as goal
@@ -17,14 +19,14 @@ pub returns-in-Response : goal.returns-in-Response
 unfolding hit
 returns-in-Response c =
     let s = c.args in
-    let m = c.message-1.given in
-    rw (m.1, set-get_or s.lease.now s.i 0, handed_on m.0.1.1.0 c.known_told-1.given.1.1.0.1)
+    let m = c.in-Response in
+    rw (m.is, set-get_or s.lease.now s.i 0, to_z-of_z {w = w64} {z = m.z} (search rules))
 
 pub returns-in-Update : goal.returns-in-Update
 unfolding hit
 returns-in-Update c =
-    let m = c.message-in-Update-1.given in
-    rw (m.1, c.after_writes.ensures ∙ after_write_lem _, handed_on m.0.1.1.0 c.known_told-in-Update-1.given.1.1.0.1)
+    let m = c.in-Update in
+    rw (m.is, c.after_writes.ensures ∙ after_write_lem _, to_z-of_z {w = w64} {z = m.z} (search rules))
 
 pub returns-in-Release : goal.returns-in-Release
 unfolding hit

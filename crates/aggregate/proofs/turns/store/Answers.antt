@@ -8,7 +8,7 @@ pub bounds-answers-k : goal.bounds-answers-k
 bounds-answers-k c = rw c.in-Combine.is at c.requires
 
 pub offset_bounds-answers-k : goal.offset_bounds-answers-k
-offset_bounds-answers-k c = omega (arith, slice-set-from-answer c, c.well_formed.0)
+offset_bounds-answers-k c = omega (arith, rw c.in-Combine.is at c.requires, c.well_formed.0)
 
 pub returns-in-Combine : goal.returns-in-Combine
 returns-in-Combine c = rw (c.in-Combine.is, to_z-of_z c.ranges.answer) (refl, refl)
