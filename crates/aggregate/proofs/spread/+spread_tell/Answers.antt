@@ -1,6 +1,5 @@
 -- The cycle of `spread::spread` and `spread::tell` meets its contracts, by what each way through `tell` and each turn of `spread` adds.
 use mathlib.Core.Path.{◌∙◌}
-use Prim.Native.Nat.{◌+◌, ◌-◌, ◌*◌}
 use native.Mathlib.Omega.{arith}
 use mir.Facts.{to_z-of_z}
 use Rattle.messages.proofs.Parts.{handed_on}

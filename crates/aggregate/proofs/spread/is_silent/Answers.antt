@@ -1,7 +1,5 @@
 -- `spread::is_silent` meets its contract: no neighbour so far holds a lease.
 use mathlib.Core.Path.{sym, ◌∙◌}
-use mathlib.Core.Bool.{false≢true}
-use Prim.Native.Nat.{◌-◌}
 use native.Mathlib.Omega.{arith}
 use Rattle.tree.proofs.Turns.{turn_inside}
 use Rattle.walk.proofs.Silence.{hushed_first, hushed_next, hushed_place, hushed_all}
