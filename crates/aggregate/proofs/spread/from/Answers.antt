@@ -7,19 +7,17 @@ use Rattle.aggregate.proofs.spread.from.Goals as goal
 use Rattle.aggregate.proofs.spread.from.Goals.{Start}
 
 abbrev seen : Start → View
-seen s = let a = s.args in view_of a.count a.parents.now a.values.now a.up-lease.now a.up-cache.now a.down-lease.now a.down-cache.now
+seen s = let a = s.args in view_of a.count a.parents.now a.values.now a.up_lease.now a.up_cache.now a.down_lease.now a.down_cache.now
 
 pub returns-then-is_silent : goal.returns-then-is_silent
-returns-then-is_silent c = let s = c in rw (silent_write (seen s) s.args.x s.requires.inside (c.is_silent.ensures c.if-is_silent.true), pushed_all-none)
+returns-then-is_silent c =
+    rw (silent_write (seen (goal.at.returns-then-is_silent c).Start) c.args.x c.requires.inside (c.is_silent.ensures c.if-is_silent.true), pushed_all-none)
 
 pub of-requires : goal.of-requires
-of-requires c = let s = c in passing s.requires.steady s.requires.inside
+of-requires c = passing c.requires.steady c.requires.inside
 
 pub spread-requires : goal.spread-requires
-spread-requires c =
-    let l = c in
-    let s = l in
-    spreading_first s.requires.steady s.requires.inside s.requires.linked l.of.ensures
+spread-requires c = spreading_first c.requires.steady c.requires.inside c.requires.linked c.of.ensures
 
 pub returns : goal.returns
 returns c = c.spread.ensures.logs
