@@ -6,7 +6,8 @@ use native.Mathlib.Omega.{arith}
 use lib.IntN.{ℤ, pos}
 use lib.ListN.{get_or, length, set}
 use mir.Facts.{to_z-of_z}
-use mir.Syntax.{w32}
+use mir.Syntax.{w32, w64}
+use borrow.Author.Rules.{rules}
 use Rattle.tree.specs.Operation.{sum}
 use Rattle.messages.proofs.Parts.{handed_on}
 use Rattle.requests.specs.declared.Request.{Request}
@@ -16,146 +17,128 @@ use Rattle.mechanism.specs.Combining.{Said}
 use Rattle.requests.specs.Lists.{node_of}
 use Rattle.mechanism.specs.Requests.{says}
 use Rattle.mechanism.specs.Views.{view}
-use Rattle.trace.specs.inner.Traces.{trace, pushed_all, logged_of, log_after_all}
+use Rattle.trace.specs.declared.Logged.{Logged}
+use Rattle.trace.specs.inner.Traces.{messages_of, trace, pushed_all, logged_of, log_after_all}
 use Rattle.aggregate.specs.inner.Acts.{request_of, Walked, early_refusal}
 use Rattle.aggregate.proofs.Paid.{counts_paid}
 use Rattle.aggregate.proofs.Judging.{Ready, ready}
 use Rattle.aggregate.proofs.Ending.{Spoken, spoken, ends_early, ends_full, ends_well}
 use Rattle.aggregate.proofs.Acting.{node_of_lem, begun_of, walkable, says_walked, restored, refused_in_place, climbing, settled}
 use Rattle.aggregate.proofs.serve.request.Goals as goal
-use Rattle.aggregate.proofs.serve.request.Goals.{After-apply, After-begin, After-log, After-walk-asked, Else-refusal-ne0, In-Next, Start}
+use Rattle.aggregate.proofs.serve.request.Goals.{After-walk-asked, Else-refusal-ne0, Start}
 
--- the session, and the request
-abbrev of : Start → Session
-of s = let a = s.args in session_by a.count a.parents.now a.values.now a.up-lease.now a.up-cache.now a.up_messages.now a.down-lease.now a.down-cache.now a.down_messages.now a.accepted.now
+-- before the tests: the session, and the request
+module _ (s : Start) where
+  abbrev given : Session
+  given = let a = s.args in session_by a.count a.parents.now a.values.now a.up_lease.now a.up_cache.now a.up_messages.now a.down_lease.now a.down_cache.now a.down_messages.now a.accepted.now
 
-abbrev due : Start → Request
-due s = request_of s.args.x s.args.act
+  abbrev asked : Request
+  asked = request_of s.args.x s.args.act
 
 -- past the tests
 module _ (e : Else-refusal-ne0) where
-  may : Ready (of start) e.args.x
-  may = ready (of start) e.requires.holds e.args.x (sym e.early_refusal-refusal.ensures ∙ e.if-refusal-ne0.false)
+  abbrev tested : Session
+  tested = let a = e.args in session_by a.count a.parents.now a.values.now a.up_lease.now a.up_cache.now a.up_messages.now a.down_lease.now a.down_cache.now a.down_messages.now a.accepted.now
 
-  ready-due : Ready (of start) (node_of (due start))
-  ready-due = rw (node_of_lem e.args.x e.args.act) may
+  may : Ready tested e.args.x
+  may = ready tested e.requires.holds e.args.x (sym e.early_refusal-refusal.ensures ∙ e.if-refusal-ne0.false)
 
   place : e.args.x < 256
   place = omega (arith, may.inside, may.holds.tree_in_rule.few)
 
 -- what was walked
 module _ (w : After-walk-asked) where
-  abbrev tests : Else-refusal-ne0
-  tests = begin
+  abbrev of : Session
+  of = let a = w.args in session_by a.count a.parents.now a.values.now a.up_lease.now a.up_cache.now a.up_messages.now a.down_lease.now a.down_cache.now a.down_messages.now a.accepted.now
 
-  abbrev began : Start
-  began = start tests
+  abbrev due : Request
+  due = request_of w.args.x w.args.act
+
+  ready_due : Ready of (node_of due)
+  ready_due = rw (node_of_lem w.args.x w.args.act) (ready of w.requires.holds w.args.x (sym w.early_refusal-refusal.ensures ∙ w.if-refusal-ne0.false))
 
   -- the numbers of its messages
   abbrev numbers : List ℕ
   numbers = w.walk-asked.new.trace
 
-  went : Walked began.args.act (view (begun_of (of began) began.args.x began.args.act)) began.args.x w.walk-asked.result.sum (trace began.args.trace.now 0) (trace numbers w.walk-asked.result.len)
+  went : Walked w.args.act (view (begun_of of w.args.x w.args.act)) w.args.x w.walk-asked.result.sum (trace w.args.trace.now 0) (trace numbers w.walk-asked.result.len)
   went = rw w.begin.ensures.0 at w.walk-asked.ensures
 
-  sums : w.walk-asked.result.sum ≡ (says sum (of began) (due began)).sum
-  sums = went.sums ∙ ap (λ (q : Said). q.sum) (says_walked (of began) began.args.x began.args.act)
+  sums : w.walk-asked.result.sum ≡ (says sum of due).sum
+  sums = went.sums ∙ ap (λ (q : Said). q.sum) (says_walked of w.args.x w.args.act)
 
-  said : Spoken (of began) (due began) numbers w.walk-asked.result.len
+  said : Spoken of due numbers w.walk-asked.result.len
   said =
-      spoken (of began) (due began) began.args.trace.now numbers w.walk-asked.result.len began.requires.typed w.begin.ensures.1 (ready-due tests) went.room
-      (went.logs ∙ ap (λ (q : Said). pushed_all q.log (trace began.args.trace.now 0)) (says_walked (of began) began.args.x began.args.act))
+      spoken of due w.args.trace.now numbers w.walk-asked.result.len w.requires.typed w.begin.ensures.1 ready_due went.room
+      (went.logs ∙ ap (λ (q : Said). pushed_all q.log (trace w.args.trace.now 0)) (says_walked of w.args.x w.args.act))
 
--- what was answered and logged
-module _ (l : After-log) where
-  abbrev first : Start
-  first = began there
+  -- what was answered and logged
+  told : (answer : Logged) → answer ≡ logged_of (length w.args.log.now) w.args.place (messages_of numbers w.walk-asked.result.len) → answer ≡ logged_of (length w.args.log.now) w.args.place (says sum of due).log
+  told answer e = e ∙ ap (logged_of (length w.args.log.now) w.args.place) said.holds
 
-  ended : Ready (of first) (node_of (due first))
-  ended = ready-due (tests there)
-
-  told : l.log.result ≡ logged_of (length first.args.log.now) first.args.place (says sum (of first) (due first)).log
-  told = l.log.ensures.0 ∙ ap (logged_of (length first.args.log.now) first.args.place) (said there).holds
-
-  logs : l.log.new.log ≡ log_after_all first.args.log.now first.args.place (says sum (of first) (due first)).log
-  logs = l.log.ensures.1 ∙ ap (log_after_all first.args.log.now first.args.place) (said there).holds
-
--- there was room
-abbrev logged : In-Next → After-log
-logged k = k
-
--- what was applied
-abbrev roomy : After-apply → In-Next
-roomy a = a
+  logs : (log : List ℕ) → log ≡ log_after_all w.args.log.now w.args.place (messages_of numbers w.walk-asked.result.len) → log ≡ log_after_all w.args.log.now w.args.place (says sum of due).log
+  logs log e = e ∙ ap (log_after_all w.args.log.now w.args.place) said.holds
 
 pub returns-then-refusal-ne0 : goal.returns-then-refusal-ne0
 returns-then-refusal-ne0 c =
-    let j = c in
-    let s = j in
-    let n = j.early_refusal-refusal.ensures ∙ ap (early_refusal s.args.count s.args.accepted.now) (sym (node_of_lem s.args.x s.args.act)) in
-    let e = ends_early (of s) (due s) s.args.log.now s.args.place s.requires.holds j.early_refusal-refusal.result n c.if-refusal-ne0.true in
-    (refused_in_place (of s) (of s) _ _ c.refused.ensures refl e.0, e.1)
+    let s = (goal.at.returns-then-refusal-ne0 c).Start in
+    let n = c.early_refusal-refusal.ensures ∙ ap (early_refusal c.args.count c.args.accepted.now) (sym (node_of_lem c.args.x c.args.act)) in
+    let e = ends_early (given s) (asked s) c.args.log.now c.args.place c.requires.holds c.early_refusal-refusal.result n c.if-refusal-ne0.true in
+    (refused_in_place (given s) (given s) _ _ c.refused.ensures refl e.0, e.1)
 
 pub offset_bounds-values-x : goal.offset_bounds-values-x
 offset_bounds-values-x c = omega (arith, place (goal.at.offset_bounds-values-x c).Else-refusal-ne0)
 
 pub bounds-values-x : goal.bounds-values-x
-bounds-values-x c = omega (arith, place (goal.at.bounds-values-x c).Else-refusal-ne0)
+bounds-values-x c = place (goal.at.bounds-values-x c).Else-refusal-ne0
 
 pub begin-requires : goal.begin-requires
-begin-requires c = let e = c in (place e, e.requires.typed.values_long)
+begin-requires c = (place (goal.at.begin-requires c).Else-refusal-ne0, c.requires.typed.values_long)
 
 pub walk-asked-requires : goal.walk-asked-requires
 walk-asked-requires c =
-    let b = c in
-    let e = b in
-    let s = start e in
-    rw b.begin.ensures.0 (walkable (of s) s.args.x s.args.act s.requires (may e).inside b.begin.ensures.1)
+    let e = (goal.at.walk-asked-requires c).Else-refusal-ne0 in
+    rw c.begin.ensures.0 (walkable (tested e) c.args.x c.args.act c.requires (may e).inside c.begin.ensures.1)
 
 pub offset_bounds-values-x-in_default : goal.offset_bounds-values-x-in_default
-offset_bounds-values-x-in_default c = omega (arith, place (tests (goal.at.offset_bounds-values-x-in_default c).After-walk-asked))
+offset_bounds-values-x-in_default c = omega (arith, place (goal.at.offset_bounds-values-x-in_default c).Else-refusal-ne0)
 
 pub bounds-values-x-in_default : goal.bounds-values-x-in_default
-bounds-values-x-in_default c = place (tests (goal.at.bounds-values-x-in_default c).After-walk-asked)
+bounds-values-x-in_default c = place (goal.at.bounds-values-x-in_default c).Else-refusal-ne0
 
 pub returns-in_default : goal.returns-in_default
 returns-in_default c =
-    let l = c in
-    let s = first l in
-    let b = begin l in
-    let same = to_z-of_z {w = w32} {z = get_or s.args.values.now s.args.x (pos 0)} (record { sfits = b.held-1.given }) in
-    let back = ap (set b.begin.new.values s.args.x) same ∙ ap (λ (vs : List ℤ). set vs s.args.x (get_or s.args.values.now s.args.x (pos 0))) b.begin.ensures.0 ∙ restored s.args.act s.args.x s.args.values.now in
-    let e = ends_full (of s) (due s) s.args.log.now s.args.place (ended l) (said l).fit _ (told l) _ (logs l) c.in_default.is in
-    (refused_in_place (of s) _ 9 _ c.refused-in_default.ensures (ap (λ (vs : List ℤ). record { tree = (of s).tree; values = vs; up = (of s).up; down = (of s).down; accepted = (of s).accepted }) back) e.0, e.1)
+    let w = (goal.at.returns-in_default c).After-walk-asked in
+    let s = of w in
+    let a = c.args in
+    let same = to_z-of_z {w = w32} {z = get_or a.values.now a.x (pos 0)} (search rules) in
+    let back = ap (set c.begin.new.values a.x) same ∙ ap (λ (vs : List ℤ). set vs a.x (get_or a.values.now a.x (pos 0))) c.begin.ensures.0 ∙ restored a.act a.x a.values.now in
+    let e = ends_full s (due w) a.log.now a.place (ready_due w) (said w).fit _ (told w _ c.log.ensures.0) _ (logs w _ c.log.ensures.1) c.in_default.is in
+    (refused_in_place s _ 9 _ c.refused-in_default.ensures (ap (λ (vs : List ℤ). record { tree = s.tree; values = vs; up = s.up; down = s.down; accepted = s.accepted }) back) e.0, e.1)
 
 pub apply-requires : goal.apply-requires
 apply-requires c =
-    let l = logged c in
-    let s = first l in
-    ((said l).few, counts_paid (of s) s.requires.holds s.requires.typed.up_long.counts s.requires.typed.down_long.counts)
+    let w = (goal.at.apply-requires c).After-walk-asked in
+    ((said w).few, counts_paid (of w) c.requires.holds c.requires.typed.up_long.counts c.requires.typed.down_long.counts)
 
 pub settle-requires : goal.settle-requires
 settle-requires c =
-    let a = c in
-    let l = logged (roomy a) in
-    let s = first l in
-    climbing (of s) s.args.x _ _ a.apply.ensures s.requires.typed s.requires.holds (may (tests l)).inside
+    let w = (goal.at.settle-requires c).After-walk-asked in
+    let e = (goal.at.settle-requires c).Else-refusal-ne0 in
+    climbing (of w) c.args.x _ _ c.apply.ensures c.requires.typed c.requires.holds (may e).inside
 
 pub overflow_add-accepted : goal.overflow_add-accepted
-overflow_add-accepted c = let few = (ended (logged (roomy c))).free in omega (arith, few)
+overflow_add-accepted c = let few = (ready_due (goal.at.overflow_add-accepted c).After-walk-asked).free in omega (arith, few)
 
 pub overflow_cast-result : goal.overflow_cast-result
-overflow_cast-result c = let few = (said (there (logged (roomy c)))).few in omega (arith, few)
+overflow_cast-result c = let few = (said (goal.at.overflow_cast-result c).After-walk-asked).few in omega (arith, few)
 
 pub returns : goal.returns
 returns c =
-    let a = c in
-    let k = roomy a in
-    let l = logged k in
-    let s = first l in
-    let u = c in
-    ends_well (of s) (due s) s.args.log.now s.args.place (ended l) (said l).fit _ (told l) _ (logs l) _ _ _ _
-    (handed_on l.walk-asked.result.sum c.struct_told-1.given.0.1 ∙ sums l)
-    (omega (arith, (said l).long))
-    k.in-Next.is
-    (settled (of s) s.args.x _ _ a.apply.ensures s.args.act l.begin.ensures.0 (said l).holds u.settle.ensures.0 u.settle.ensures.1)
+    let w = (goal.at.returns c).After-walk-asked in
+    let a = c.args in
+    ends_well (of w) (due w) a.log.now a.place (ready_due w) (said w).fit _ (told w _ c.log.ensures.0) _ (logs w _ c.log.ensures.1) _ _ _ _
+    (to_z-of_z {w = w64} {z = c.walk-asked.result.sum} (search rules) ∙ sums w)
+    (omega (arith, (said w).long))
+    c.in-Next.is
+    (settled (of w) a.x _ _ c.apply.ensures a.act c.begin.ensures.0 (said w).holds c.settle.ensures.0 c.settle.ensures.1)
