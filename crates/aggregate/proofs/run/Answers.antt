@@ -5,32 +5,19 @@ use Rattle.aggregate.proofs.run.Goals as goal
 
 pub returns-then-judged-ne0 : goal.returns-then-judged-ne0
 returns-then-judged-ne0 c =
-    let j = c in
-    let s = j in
-    let e = ends_unread s.args.session s.args.list.now s.args.answers.now s.args.log.now s.args.place j.judge-judged.result j.judge-judged.ensures c.if-judged-ne0.true in
+    let e = ends_unread c.args.session c.args.list.now c.args.answers.now c.args.log.now c.args.place c.judge-judged.result c.judge-judged.ensures c.if-judged-ne0.true in
     (c.refused.ensures ∙ e.0, e.1, e.2)
 
 pub returns-then-answers-judged : goal.returns-then-answers-judged
 returns-then-answers-judged c =
-    let p = c in
-    let j = p in
-    let s = j in
-    let e = ends_few_places s.args.session s.args.list.now s.args.answers.now s.args.log.now s.args.place j.judge-judged.result j.judge-judged.ensures p.if-judged-ne0.false c.if-answers-judged.true in
+    let e = ends_few_places c.args.session c.args.list.now c.args.answers.now c.args.log.now c.args.place c.judge-judged.result c.judge-judged.ensures c.if-judged-ne0.false c.if-answers-judged.true in
     (c.refused-then-answers-judged.ensures ∙ e.0, e.1, e.2)
 
 pub returns-then-not-sound : goal.returns-then-not-sound
 returns-then-not-sound c =
-    let i = c in
-    let p = i in
-    let j = p in
-    let s = j in
-    let e = ends_unsound s.args.session s.args.list.now s.args.answers.now s.args.log.now s.args.place j.judge-judged.result j.judge-judged.ensures p.if-judged-ne0.false i.if-answers-judged.false (sym i.is_sound-sound.ensures ∙ c.if-not-sound.true) in
+    let e = ends_unsound c.args.session c.args.list.now c.args.answers.now c.args.log.now c.args.place c.judge-judged.result c.judge-judged.ensures c.if-judged-ne0.false c.if-answers-judged.false (sym c.is_sound-sound.ensures ∙ c.if-not-sound.true) in
     (c.refused-then-not-sound.ensures ∙ e.0, e.1, e.2)
 
 pub whole-requires : goal.whole-requires
 whole-requires c =
-    let i = c in
-    let p = i in
-    let j = p in
-    let s = j in
-    starting s.args.session s.args.list.now s.args.answers.now s.args.log.now s.args.place j.judge-judged.result j.judge-judged.ensures p.if-judged-ne0.false i.if-answers-judged.false (sym i.is_sound-sound.ensures ∙ c.if-not-sound.false)
+    starting c.args.session c.args.list.now c.args.answers.now c.args.log.now c.args.place c.judge-judged.result c.judge-judged.ensures c.if-judged-ne0.false c.if-answers-judged.false (sym c.is_sound-sound.ensures ∙ c.if-not-sound.false)

@@ -3,4 +3,4 @@ use mir.Facts.{to_z-of_z}
 use Rattle.aggregate.proofs.write.Goals as goal
 
 pub returns : goal.returns
-returns c = let s = c in rw (to_z-of_z s.ranges.value) at c.whole.ensures
+returns c = rw (to_z-of_z c.ranges.value) at c.whole.ensures

@@ -1,6 +1,6 @@
 -- `apply::apply` meets its contract: the messages so far are applied, and no count is near its limit.
 use mathlib.Core.Path.{◌≡◌}
-use Prim.Native.Nat.{◌-◌, min}
+use Prim.Native.Nat.{min}
 use native.Mathlib.Omega.{arith}
 use Rattle.aggregate.proofs.Hitting.{done_none, done_more, step_up, step_down}
 use Rattle.aggregate.proofs.apply.apply.Goals as goal

@@ -1,5 +1,5 @@
 -- The cycle of `ask::ask` and `ask::visit` meets its contracts: each step of the walk is a law of it.
-use mathlib.Core.Path.{sym, ◌∙◌}
+use mathlib.Core.Path.{◌∙◌}
 use native.Mathlib.Omega.{arith}
 use borrow.Author.Rules.{rules}
 use mir.Syntax.{w64}

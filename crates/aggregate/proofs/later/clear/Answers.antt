@@ -1,6 +1,5 @@
 -- `later::clear` meets its contract: the nodes before u have zeros.
 use mathlib.Core.Path.{◌≡◌}
-use Prim.Native.Nat.{◌-◌}
 use native.Mathlib.Omega.{arith}
 use Rattle.walk.proofs.Passes.{cleared_none, cleared_next}
 use Rattle.aggregate.proofs.later.clear.Goals as goal

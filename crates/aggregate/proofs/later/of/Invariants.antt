@@ -1,5 +1,4 @@
 -- `later::of` meets its contract: the nodes from i on are passed.
-use Prim.Native.Nat.{◌-◌}
 use Rattle.mechanism.specs.Views.{view_of}
 use Rattle.walk.proofs.Passes.{Passes}
 use Rattle.aggregate.proofs.later.of.Given as goal

@@ -1,5 +1,4 @@
 -- `raise::raise` meets its contract: the nodes from i on are raised.
-use Prim.Native.Nat.{◌-◌}
 use Rattle.aggregate.proofs.Raising.{Climbed}
 use Rattle.aggregate.proofs.raise.raise.Given as goal
 

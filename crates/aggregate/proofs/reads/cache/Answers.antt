@@ -6,8 +6,8 @@ use Rattle.aggregate.proofs.reads.cache.Goals as goal
 
 pub returns-then-v-u : goal.returns-then-v-u
 unfolding pair_at
-returns-then-v-u c = rw (lt-ltb _ _ c.if-v-u.true) (handed_on _ c.result-1.given)
+returns-then-v-u c = rw (lt-ltb _ _ c.if-v-u.true) (handed_on _ (assumption c))
 
 pub returns : goal.returns
 unfolding pair_at
-returns c = rw (le-ltb _ _ c.if-v-u.false) (handed_on _ c.result-2-1.given)
+returns c = rw (le-ltb _ _ c.if-v-u.false) (handed_on _ (assumption c))

@@ -9,7 +9,6 @@ use mir.Facts.{to_z-of_z}
 use mir.Syntax.{w32, w64}
 use borrow.Author.Rules.{rules}
 use Rattle.tree.specs.Operation.{sum}
-use Rattle.messages.proofs.Parts.{handed_on}
 use Rattle.requests.specs.declared.Request.{Request}
 use Rattle.session.specs.Parts.{session_by}
 use Rattle.session.specs.declared.Session.{Session}

@@ -3,11 +3,7 @@ use Rattle.session.proofs.Typing.{typed}
 use Rattle.aggregate.proofs.serve.whole.Goals as goal
 
 pub tested-outcome-requires : goal.tested-outcome-requires
-tested-outcome-requires c =
-    let s = c in
-    typed s.args.session _ s.well_formed.0
+tested-outcome-requires c = typed c.args.session _ c.well_formed.0
 
 pub returns : goal.returns
-returns c =
-    let t = c in
-    rw c.joined.ensures t.tested-outcome.ensures
+returns c = rw c.joined.ensures c.tested-outcome.ensures

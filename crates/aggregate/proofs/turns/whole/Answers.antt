@@ -16,19 +16,11 @@ of-links-requires c = let r = (starts (goal.at.of-links-requires c).Start).holds
 
 pub each-course-requires : goal.each-course-requires
 each-course-requires c =
-    let l = c in
-    let s = l in
-    (record { typed = typed s.args.session _ s.well_formed.0; holds = (starts s).holds; linked = l.of-links.ensures }, s.requires)
-
-pub shape_of-answers : goal.shape_of-answers
-shape_of-answers c = c.answers-1.given
-
-pub shape_of-log : goal.shape_of-log
-shape_of-log c = c.log-1.given
+    let s = (goal.at.each-course-requires c).Start in
+    (record { typed = typed c.args.session _ c.well_formed.0; holds = (starts s).holds; linked = c.of-links.ensures }, c.requires)
 
 pub returns : goal.returns
 returns c =
-    let e = c in
-    let s = e in
-    let o = ends s.args.session s.args.list.now s.args.answers.now s.args.log.now s.args.place s.requires.accepted _ _ e.each-course.ensures in
-    (c.ended.ensures ∙ ap (λ (t : Session). ended_as e.each-course.result.refusal e.each-course.result.totals t) c.joined-after.ensures ∙ o.0, o.1, o.2)
+    let s = c.args in
+    let o = ends s.session s.list.now s.answers.now s.log.now s.place c.requires.accepted _ _ c.each-course.ensures in
+    (c.ended.ensures ∙ ap (λ (t : Session). ended_as c.each-course.result.refusal c.each-course.result.totals t) c.joined-after.ensures ∙ o.0, o.1, o.2)
