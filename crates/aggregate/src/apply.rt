@@ -22,7 +22,7 @@ pub fn apply(
 )
     requires { (len ≤ 510) × Counts 2097152 (links_by up_lease.old up_cache.old up_messages.old down_lease.old down_cache.old down_messages.old) }
     ensures { links_by up_lease.new up_cache.new up_messages.new down_lease.new down_cache.new down_messages.new
-        ≡ spec.applied (messagesOf trace.now len) (linksBy up_lease.old up_cache.old up_messages.old down_lease.old down_cache.old down_messages.old) }
+        ≡ spec.applied (messages_of trace.now len) (links_by up_lease.old up_cache.old up_messages.old down_lease.old down_cache.old down_messages.old) }
 {
     let mut k: usize = 0;
     while k < len {

@@ -3,6 +3,8 @@
 // Every public function takes whatever it is handed and has one outcome. A refused call answers its
 // number and zeros, and leaves the session and all lent memory as they were; a list that stops midway
 // keeps what its earlier requests did.
+#![tactic(auto)]
+
 mod act; // what a combine and a write do in their turn
 mod apply; // what messages make of a session
 mod ask; // the walk of a combine
@@ -87,8 +89,8 @@ pub fn write(session: Session, x: usize, value: i32, log: &mut [u8], place: usiz
 // combines, 6 the session is unsound. That the session is sound is tested once.
 pub fn run(session: Session, list: &[u8], answers: &mut [i64], log: &mut [u8], place: usize) -> Ran
     ensures { (result ≡ ran_of session list.now answers.old log.old place)
-        × (answers.new ≡ answersOf session list.now answers.old log.old place)
-        × (log.new ≡ runLogOf session list.now answers.old log.old place) }
+        × (answers.new ≡ answers_of session list.now answers.old log.old place)
+        × (log.new ≡ run_log_of session list.now answers.old log.old place) }
 {
     let judged = requests::judge(list);
     if judged.refusal != 0 {

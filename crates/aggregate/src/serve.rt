@@ -79,9 +79,9 @@ fn tested(
 ) -> Outcome
     requires { Typed (session_by count parents.now values.old up_lease.old up_cache.old up_messages.old down_lease.old down_cache.old down_messages.old accepted.old) }
     ensures { (served_as result (session_by count parents.now values.new up_lease.new up_cache.new up_messages.new down_lease.new down_cache.new down_messages.new accepted.new)
-        ≡ servedOf (sessionBy count parents.now values.old up_lease.old up_cache.old up_messages.old down_lease.old down_cache.old down_messages.old accepted.old) (requestOf x act) (length log.old) place)
+        ≡ served_of (session_by count parents.now values.old up_lease.old up_cache.old up_messages.old down_lease.old down_cache.old down_messages.old accepted.old) (request_of x act) (length log.old) place)
         × (log.new
-        ≡ logOf (sessionBy count parents.now values.old up_lease.old up_cache.old up_messages.old down_lease.old down_cache.old down_messages.old accepted.old) (requestOf x act) log.old place) }
+        ≡ log_of (session_by count parents.now values.old up_lease.old up_cache.old up_messages.old down_lease.old down_cache.old down_messages.old accepted.old) (request_of x act) log.old place) }
 {
     let sound = session::parts_are_sound(
         count,
@@ -150,9 +150,9 @@ pub fn request<'a>(
 ) -> Outcome
     requires { Servable (session_by count parents.now values.old up_lease.old up_cache.old up_messages.old down_lease.old down_cache.old down_messages.old accepted.old) first.now next.now }
     ensures { (served_as result (session_by count parents.now values.new up_lease.new up_cache.new up_messages.new down_lease.new down_cache.new down_messages.new accepted.new)
-        ≡ servedOf (sessionBy count parents.now values.old up_lease.old up_cache.old up_messages.old down_lease.old down_cache.old down_messages.old accepted.old) (requestOf x act) (length log.old) place)
+        ≡ served_of (session_by count parents.now values.old up_lease.old up_cache.old up_messages.old down_lease.old down_cache.old down_messages.old accepted.old) (request_of x act) (length log.old) place)
         × (log.new
-        ≡ logOf (sessionBy count parents.now values.old up_lease.old up_cache.old up_messages.old down_lease.old down_cache.old down_messages.old accepted.old) (requestOf x act) log.old place) }
+        ≡ log_of (session_by count parents.now values.old up_lease.old up_cache.old up_messages.old down_lease.old down_cache.old down_messages.old accepted.old) (request_of x act) log.old place) }
 {
     let refusal = judge::early_refusal(count, *accepted, x);
     if refusal != 0 {

@@ -31,7 +31,7 @@ pub fn from<'a>(
 ) -> usize
     requires { Walkable (view_of count parents.now values.now up_lease.now up_cache.now down_lease.now down_cache.now) first.now next.now x }
     ensures { traces.trace trace.new result
-        ≡ traces.pushedAll (write operation.sum (view_of count parents.now values.now up_lease.now up_cache.now down_lease.now down_cache.now) x) (traces.trace trace.old 0) }
+        ≡ traces.pushed_all (write operation.sum (view_of count parents.now values.now up_lease.now up_cache.now down_lease.now down_cache.now) x) (traces.trace trace.old 0) }
 {
     if is_silent(count, parents, first, next, up_lease, down_lease, x) {
         return 0;

@@ -31,8 +31,8 @@ pub fn whole(
 ) -> Ran
     requires { Starting session list.now (length answers.old) count from }
     ensures { (result ≡ spec.ran_of session list.now answers.old log.old place)
-        × (answers.new ≡ spec.answersOf session list.now answers.old log.old place)
-        × (log.new ≡ spec.runLogOf session list.now answers.old log.old place) }
+        × (answers.new ≡ spec.answers_of session list.now answers.old log.old place)
+        × (log.new ≡ spec.run_log_of session list.now answers.old log.old place) }
 {
     let tree = session.tree;
     let nodes = tree.count;
@@ -106,9 +106,9 @@ fn each<'a>(
     place: usize,
 ) -> Course
     requires { Servable (session_by nodes parents.now values.old up_lease.old up_cache.old up_messages.old down_lease.old down_cache.old down_messages.old accepted.old) first.now next.now
-        × Starting (sessionBy nodes parents.now values.old up_lease.old up_cache.old up_messages.old down_lease.old down_cache.old down_messages.old accepted.old) list.now (length answers.old) count from }
+        × Starting (session_by nodes parents.now values.old up_lease.old up_cache.old up_messages.old down_lease.old down_cache.old down_messages.old accepted.old) list.now (length answers.old) count from }
     ensures { ended_by result.refusal result.totals (session_by nodes parents.now values.new up_lease.new up_cache.new up_messages.new down_lease.new down_cache.new down_messages.new accepted.new) answers.new log.new
-        ≡ spec.end_of (sessionBy nodes parents.now values.old up_lease.old up_cache.old up_messages.old down_lease.old down_cache.old down_messages.old accepted.old) list.now answers.old log.old place }
+        ≡ spec.end_of (session_by nodes parents.now values.old up_lease.old up_cache.old up_messages.old down_lease.old down_cache.old down_messages.old accepted.old) list.now answers.old log.old place }
 {
     let mut later_up = [0i64; 256];
     let mut later_down = [0i64; 256];

@@ -2,6 +2,8 @@
 //
 // Every public function is total: it takes whatever it is handed and has one outcome. Only the first
 // 65,536 bytes of a log, or all of a shorter one, are ever used: the usable log.
+#![tactic(auto)]
+
 mod reader; // the log's reader that carries the log and its place along
 mod record; // a message as a record of bits
 
@@ -73,6 +75,7 @@ pub fn code(message: Message) -> Coded
 }
 
 // The message of a number of 58 bits.
+#[tactic(auto, unfolding(crate::specs::Reading::decoded, crate::specs::Reading::message_of))]
 pub fn decode(number: u64) -> Message
     ensures { result ≡ decoded number }
 {

@@ -13,7 +13,7 @@ use Rattle.messages.specs.declared.Message.TheVariants.{Probe, Response, Update,
 use Rattle.messages.specs.declared.Entry.{Entry}
 use Rattle.messages.specs.declared.Entry.TheVariants.{Read}
 use Rattle.requests.specs.Reading.{requests_of, judged_of}
-use Rattle.requests.specs.Reading.{refused as list-refused}
+use Rattle.requests.specs.Reading.{refused as list_refused}
 use Rattle.requests.specs.declared.Judged.{Judged}
 use Rattle.requests.specs.declared.Request.{Request}
 use Rattle.requests.specs.declared.Request.TheVariants.{Combine, Write}
@@ -181,7 +181,7 @@ cases =
     ∷ record { input = requests (0x00 ∷ 0x00 ∷ []); output = asks [] }
     ∷ record { input = list (0x00 ∷ 0x0C ∷ 0x08 ∷ 0x00 ∷ 0x00 ∷ 0x00 ∷ 0x14 ∷ []); output = judges (record { refusal = 0; requests = 1; combines = 0; first = 13 }) }
     ∷ record { input = requests (0x00 ∷ 0x0C ∷ 0x08 ∷ 0x00 ∷ 0x00 ∷ 0x00 ∷ 0x14 ∷ []); output = asks (Write 2 (pos 5) ∷ []) }
-    ∷ record { input = list (0x80 ∷ 0x08 ∷ []); output = judges (list-refused 5) }
+    ∷ record { input = list (0x80 ∷ 0x08 ∷ []); output = judges (list_refused 5) }
     -- a probe from 0 to 1; a response from 1 to 0 with -1
     ∷ record { input = log 3 (Probe 0 1); output = logs (0x00 ∷ 0x00 ∷ 0x40 ∷ []) (Read (Probe 0 1) 18) }
     ∷ record { input = log 8 (Response 1 0 (negsuc 0)); output = logs (0x40 ∷ 0x40 ∷ 0x3F ∷ 0xFF ∷ 0xFF ∷ 0xFF ∷ 0xFF ∷ 0xC0 ∷ []) (Read (Response 1 0 (negsuc 0)) 58) }

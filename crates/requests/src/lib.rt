@@ -3,6 +3,8 @@
 // A list is the number of requests in 13 bits, then each request: 1 bit (0 combine, 1 write), the
 // node in 8 bits, and for a write the value in 32 bits, two's complement; then zero bits to the byte.
 // Every function takes any bytes and any place, and has one outcome. Nothing is copied.
+#![tactic(auto)]
+
 mod reader; // the requests of a list, one by one
 
 ghost use Rattle.std.specs.Prelude.{◌≡◌};

@@ -2,6 +2,8 @@
 //
 // Every function takes any session, also one that no call of this library returned, and has one
 // outcome.
+#![tactic(auto)]
+
 mod entry; // the entries of pairs and values
 mod order; // the inequality between neighbouring pairs
 

@@ -2,6 +2,8 @@
 //
 // A table is the node count in 9 bits, then for each node from 1 up its parent, in as many bits as
 // the node's number less one is long in binary, then zero bits to the byte.
+#![tactic(auto)]
+
 mod reader; // from bytes to a tree, field by field
 mod width; // how wide the parent fields are
 mod writer; // from a tree to bytes

@@ -2,7 +2,7 @@
 ghost use Rattle.std.specs.Prelude.{◌≡◌};
 ghost use Rattle.table.specs.Format.{Counted};
 ghost use Rattle.table.specs.Reading.{reading_of};
-ghost use Rattle.table.specs.Reading;
+ghost use Rattle.table.specs.Reading as spec;
 
 use crate::{Reading, width};
 use tree::Tree;
@@ -42,7 +42,7 @@ pub fn nodes(bytes: &[u8], count: usize) -> Reading
 
 // What reading a refused table answers: its number, and zeros.
 pub fn refused(number: u8) -> Reading
-    ensures { result ≡ Reading.refused number }
+    ensures { result ≡ spec.refused number }
 {
     Reading {
         refusal: number,

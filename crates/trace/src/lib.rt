@@ -2,6 +2,8 @@
 //
 // Every public function is total: it takes whatever it is handed and has one outcome. A trace has room
 // for 510 messages, and of a length above that only 510 are ever used.
+#![tactic(auto)]
+
 ghost use Rattle.std.specs.Prelude.{◌≡◌, ◌≤◌, min, length};
 ghost use Rattle.messages.specs.Writing.{bits_of_all};
 ghost use Rattle.trace.specs.inner.Traces as spec;

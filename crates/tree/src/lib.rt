@@ -3,6 +3,8 @@
 // Node 0 is the root, and the parent of every other node is smaller than the node. Every function
 // takes any tree, also one that is out of rule, and has one outcome. The laws of the sides of a
 // tree, and of what is folded and walked over it, are mathematics: they stand in specs/ and proofs/.
+#![tactic(auto)]
+
 mod edge; // neighbours, and the way to the root
 mod entry; // which entries are in rule
 mod pass; // the sizes of all sides

@@ -1,0 +1,10 @@
+-- `raise::raise` meets its contract: the nodes from i on are raised.
+use Prim.Native.Nat.{◌-◌}
+use Rattle.aggregate.proofs.Raising.{Climbed}
+use Rattle.aggregate.proofs.raise.raise.Given as goal
+
+abbrev pub invariant-loop-i : goal.invariant-loop-i
+invariant-loop-i l = Climbed l.parents l.count l.x l.initial.up l.initial.down l.up l.down l.at l.i
+
+abbrev pub decreases-loop-i : goal.decreases-loop-i
+decreases-loop-i l = l.i
