@@ -49,9 +49,7 @@ fn accepted(session: Session, accepted: u32) -> Session {
 
 fn requests(letter: u8, times: u64, session: Session, x: usize, log: &mut [u8]) -> u64 {
     let mut sum: u64 = 0;
-    let mut left = times;
-    while 0 < left {
-        left -= 1;
+    for _ in 0..times {
         sum = mixed(sum, said(after(letter, session, x, log)));
     }
     sum
@@ -101,9 +99,7 @@ fn writes(times: u64, session: Session, x: usize, log: &mut [u8]) -> u64 {
 fn fill(width: usize, request: u64, list: &mut [u8]) {
     fields::put(list, 0, 13, 64);
     let mut place: usize = 13;
-    let mut left: usize = 64;
-    while 0 < left {
-        left -= 1;
+    for _ in 0..64 {
         fields::put(list, place, width, request);
         place = place % 4096 + width % 64;
     }
@@ -111,9 +107,7 @@ fn fill(width: usize, request: u64, list: &mut [u8]) {
 
 fn lists(times: u64, session: Session, list: &[u8], log: &mut [u8]) -> u64 {
     let mut sum: u64 = 0;
-    let mut left = times;
-    while 0 < left {
-        left -= 1;
+    for _ in 0..times {
         sum = mixed(sum, done(run(session, list, log)));
     }
     sum

@@ -66,9 +66,7 @@ fn write(rt: &impl Print, node: u8, value: i32) -> io::Result<()> {
 fn summed(list: &[u8], first: usize, requests: usize) -> u64 {
     let mut sum: u64 = 0;
     let mut place = first;
-    let mut left = requests;
-    while 0 < left {
-        left -= 1;
+    for _ in 0..requests {
         let Item::Found(request, next) = requests::request_at(list, place) else {
             return 0;
         };

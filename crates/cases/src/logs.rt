@@ -71,9 +71,7 @@ pub fn read(rt: &impl Print, place: u64, end: u64, log: &[u8]) -> io::Result<()>
 
 fn all(rt: &impl Print, place: usize, end: usize, log: &[u8]) -> io::Result<()> {
     let mut at = place;
-    let mut left: usize = 1000;
-    while 0 < left {
-        left -= 1;
+    for _ in 0..1000 {
         let e = messages::read(log, at, end);
         entry(rt, e)?;
         let Entry::Read(_, next) = e else {
@@ -87,15 +85,13 @@ fn all(rt: &impl Print, place: usize, end: usize, log: &[u8]) -> io::Result<()> 
 // How many messages stand in the log from a place on: a usable log has room for no more than 29,127.
 fn count(place: usize, end: usize, log: &[u8]) -> usize {
     let mut at = place;
-    let mut n: usize = 0;
-    while n < 29127 {
+    for n in 0..29127usize {
         let Entry::Read(_, next) = messages::read(log, at, end) else {
             return n;
         };
         at = next;
-        n = n + 1;
     }
-    n
+    29127
 }
 
 fn entry(rt: &impl Print, e: Entry) -> io::Result<()> {

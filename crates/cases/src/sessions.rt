@@ -80,9 +80,7 @@ fn run(
     let judged = requests::judge(list);
     let mut session = session;
     let mut at = judged.first;
-    let mut left = judged.requests;
-    while 0 < left {
-        left -= 1;
+    for _ in 0..judged.requests {
         let Item::Found(request, next) = requests::request_at(list, at) else {
             return Ok(session);
         };
@@ -155,22 +153,18 @@ pub fn held(rt: &impl Print, session: Session) -> io::Result<()> {
 
 fn values(values: &[i32; 256]) -> u64 {
     let mut sum: u64 = 0;
-    let mut i: usize = 0;
-    while i < 256 {
+    for i in 0..256usize {
         sum = show::mixed(sum, bits32(values[i]));
-        i += 1;
     }
     sum
 }
 
 fn pairs<'a>(lease: &'a [u8; 256], cache: &'a [i64; 256], messages: &'a [u32; 256]) -> u64 {
     let mut sum: u64 = 0;
-    let mut i: usize = 0;
-    while i < 256 {
+    for i in 0..256usize {
         sum = show::mixed(sum, show::wide(lease[i]));
         sum = show::mixed(sum, bits(cache[i]));
         sum = show::mixed(sum, wide(messages[i]));
-        i += 1;
     }
     sum
 }

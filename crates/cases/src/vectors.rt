@@ -38,8 +38,7 @@ fn run(rt: &impl Print, session: Session, logs: bool, list: &[u8]) -> io::Result
     let mut session = session;
     let mut at = judged.first;
     let mut messages: u64 = 0;
-    let mut index: usize = 0;
-    while index < judged.requests {
+    for index in 0..judged.requests {
         let Item::Found(request, next) = requests::request_at(list, at) else {
             return Ok(());
         };
@@ -50,7 +49,6 @@ fn run(rt: &impl Print, session: Session, logs: bool, list: &[u8]) -> io::Result
         session = served.session;
         at = next;
         messages = plus(messages, served.outcome.messages);
-        index += 1;
     }
     total(rt, messages)
 }

@@ -14,8 +14,7 @@ pub fn list(rt: &impl Print, session: Session, list: &[u8]) -> io::Result<()> {
     let mut session = session;
     let mut place = judged.first;
     let mut sum: u64 = 0;
-    let mut index: usize = 0;
-    while index < judged.requests {
+    for index in 0..judged.requests {
         // An accepted list has every request.
         let Item::Found(request, next) = requests::request_at(list, place) else {
             return Ok(());
@@ -28,7 +27,6 @@ pub fn list(rt: &impl Print, session: Session, list: &[u8]) -> io::Result<()> {
         session = served.session;
         place = next;
         sum += served.outcome.messages as u64;
-        index += 1;
     }
     show::total(rt, sum)
 }
