@@ -107,7 +107,7 @@ module _ (s : Session) (list : List ℕ) (places : List ℤ) (log : List ℕ) (p
   stays none = ap (λ (e : Ended). e.reached) (sym alone ∙ ap (λ (l : List Request). runs l first) none)
 
   led : Went first last these
-  led = went these first last (sized_first last.totals.requests (requests_of list) (read_sized list)) (rw alone at (serves these first))
+  led = went last these first (sized_first last.totals.requests (requests_of list) (read_sized list)) (rw alone at (serves these first))
 
   said : spoken_in (requests_of list) first ≡ spoken_by sum 2 s these
   said = sym came.spoken ∙ ap (λ (l : List Request). spoken_in l first) these_are ∙ led.spoken

@@ -67,7 +67,7 @@ went_more r l o o' sized e w =
           ∙ ap (λ (y : ℤ). take k o.answers ++ (answer_of r y ++ rest)) g;
     }
 
-pub went : (l : List Request) (o o' : Running) → AllSized l → Serves 0 o' l o → Went o o' l
-went l o o' sized (all_done e) = went_none o
-went l o o' sized (stopped r rs h e) = absurd (omega (arith, h))
-went l o o' sized (accepted r rs q e rest) = went_more r rs o o' sized.0 e (went rs (done r o) o' sized.1 rest)
+pub went : (o' : Running) (l : List Request) (o : Running) → AllSized l → Serves 0 o' l o → Went o o' l
+went o' l o sized (all_done e) = went_none o
+went o' l o sized (stopped r rs h e) = absurd (omega (arith, h))
+went o' l o sized (accepted r rs q e rest) = went_more r rs o o' sized.0 e (went o' rs (done r o) sized.1 rest)

@@ -85,7 +85,7 @@ module _ (s : Session) (rs : List Request) (places : List ℤ) (log : List ℕ) 
       = (whole_exactly s (list_of rs) (length places) 0).1 (starts ((list_ruled_exactly (list_of rs) 0).0 read.0) (rw read.1 enough) ((sound_exactly 2 s).1 good.holds)) in
       let ended = finishes rs first (trusted s good) h room in
       let came = reach rs first in
-      let w = went rs first last sized (rw ended at (serves rs first)) in
+      let w = went last rs first sized (rw ended at (serves rs first)) in
       let k = spoke rs first in
       let all : last.totals.requests ≡ length rs = omega (arith, came.counted, (came.all ended).0) in
       rw (ran_is s (list_of rs) places log place begun, read.1)

@@ -1,3 +1,5 @@
+#![tactic(auto)]
+
 // The lease mechanism: what a combine and a write say, what they make of a session, and when they
 // are refused.
 //

@@ -1,3 +1,5 @@
+#![tactic(auto)]
+
 // How the two walks go through the tree: from neighbour to neighbour by links, with what comes after
 // each neighbour laid by.
 //

@@ -1,6 +1,6 @@
 -- `span::read` meets its contract. After i turns the number is the field of the first i bits.
 use mathlib.Core.Path.{◌∙◌, ap, refl}
-use Prim.Native.Nat.{◌-◌, ◌+◌, zero-le}
+use Prim.Native.Nat.{◌+◌, zero-le}
 use native.Mathlib.Omega.{arith}
 use Rattle.fields.specs.Fields.{field}
 use Rattle.fields.proofs.Bits.{bit_lt}
