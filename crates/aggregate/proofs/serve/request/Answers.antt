@@ -24,7 +24,7 @@ use Rattle.aggregate.proofs.Judging.{Ready, ready}
 use Rattle.aggregate.proofs.Ending.{Spoken, spoken, ends_early, ends_full, ends_well}
 use Rattle.aggregate.proofs.Acting.{node_of_lem, begun_of, walkable, says_walked, restored, refused_in_place, climbing, settled}
 use Rattle.aggregate.proofs.serve.request.Goals as goal
-use Rattle.aggregate.proofs.serve.request.Goals.{After-walk-asked, Else-refusal-ne0, Start}
+use Rattle.aggregate.proofs.serve.request.Goals.{After-early_refusal-refusal, After-walk-asked, Start}
 
 -- before the tests: the session, and the request
 module _ (s : Start) where
@@ -34,16 +34,16 @@ module _ (s : Start) where
   abbrev asked : Request
   asked = request_of s.args.x s.args.act
 
--- past the tests
-module _ (e : Else-refusal-ne0) where
+-- past the tests, where none refused it
+module _ (e : After-early_refusal-refusal) where
   abbrev tested : Session
   tested = let a = e.args in session_by a.count a.parents.now a.values.now a.up_lease.now a.up_cache.now a.up_messages.now a.down_lease.now a.down_cache.now a.down_messages.now a.accepted.now
 
-  may : Ready tested e.args.x
-  may = ready tested e.requires.holds e.args.x (sym e.early_refusal-refusal.ensures ∙ e.if-refusal-ne0.false)
+  may : e.early_refusal-refusal.result ≡ 0 → Ready tested e.args.x
+  may none = ready tested e.requires.holds e.args.x (sym e.early_refusal-refusal.ensures ∙ none)
 
-  place : e.args.x < 256
-  place = omega (arith, may.inside, may.holds.tree_in_rule.few)
+  place : e.early_refusal-refusal.result ≡ 0 → e.args.x < 256
+  place none = omega (arith, (may none).inside, (may none).holds.tree_in_rule.few)
 
 -- what was walked
 module _ (w : After-walk-asked) where
@@ -53,8 +53,11 @@ module _ (w : After-walk-asked) where
   abbrev due : Request
   due = request_of w.args.x w.args.act
 
+  none : w.early_refusal-refusal.result ≡ 0
+  none = omega arith
+
   ready_due : Ready of (node_of due)
-  ready_due = rw (node_of_lem w.args.x w.args.act) (ready of w.requires.holds w.args.x (sym w.early_refusal-refusal.ensures ∙ w.if-refusal-ne0.false))
+  ready_due = rw (node_of_lem w.args.x w.args.act) (ready of w.requires.holds w.args.x (sym w.early_refusal-refusal.ensures ∙ none))
 
   -- the numbers of its messages
   abbrev numbers : List ℕ
@@ -86,24 +89,24 @@ returns-then-refusal-ne0 c =
     (refused_in_place (given s) (given s) _ _ c.refused.ensures refl e.0, e.1)
 
 pub offset_bounds-values-x : goal.offset_bounds-values-x
-offset_bounds-values-x c = omega (arith, place (goal.at.offset_bounds-values-x c).Else-refusal-ne0)
+offset_bounds-values-x c = omega (arith, place (goal.at.offset_bounds-values-x c).After-early_refusal-refusal (omega arith))
 
 pub bounds-values-x : goal.bounds-values-x
-bounds-values-x c = place (goal.at.bounds-values-x c).Else-refusal-ne0
+bounds-values-x c = place (goal.at.bounds-values-x c).After-early_refusal-refusal (omega arith)
 
 pub begin-requires : goal.begin-requires
-begin-requires c = (place (goal.at.begin-requires c).Else-refusal-ne0, c.requires.typed.values_long)
+begin-requires c = (place (goal.at.begin-requires c).After-early_refusal-refusal (omega arith), c.requires.typed.values_long)
 
 pub walk-asked-requires : goal.walk-asked-requires
 walk-asked-requires c =
-    let e = (goal.at.walk-asked-requires c).Else-refusal-ne0 in
-    rw c.begin.ensures.0 (walkable (tested e) c.args.x c.args.act c.requires (may e).inside c.begin.ensures.1)
+    let e = (goal.at.walk-asked-requires c).After-early_refusal-refusal in
+    rw c.begin.ensures.0 (walkable (tested e) c.args.x c.args.act c.requires (may e (omega arith)).inside c.begin.ensures.1)
 
 pub offset_bounds-values-x-in_default : goal.offset_bounds-values-x-in_default
-offset_bounds-values-x-in_default c = omega (arith, place (goal.at.offset_bounds-values-x-in_default c).Else-refusal-ne0)
+offset_bounds-values-x-in_default c = omega (arith, place (goal.at.offset_bounds-values-x-in_default c).After-early_refusal-refusal (omega arith))
 
 pub bounds-values-x-in_default : goal.bounds-values-x-in_default
-bounds-values-x-in_default c = place (goal.at.bounds-values-x-in_default c).Else-refusal-ne0
+bounds-values-x-in_default c = place (goal.at.bounds-values-x-in_default c).After-early_refusal-refusal (omega arith)
 
 pub returns-in_default : goal.returns-in_default
 returns-in_default c =
@@ -123,8 +126,8 @@ apply-requires c =
 pub settle-requires : goal.settle-requires
 settle-requires c =
     let w = (goal.at.settle-requires c).After-walk-asked in
-    let e = (goal.at.settle-requires c).Else-refusal-ne0 in
-    climbing (of w) c.args.x _ _ c.apply.ensures c.requires.typed c.requires.holds (may e).inside
+    let e = (goal.at.settle-requires c).After-early_refusal-refusal in
+    climbing (of w) c.args.x _ _ c.apply.ensures c.requires.typed c.requires.holds (may e (omega arith)).inside
 
 pub overflow_add-accepted : goal.overflow_add-accepted
 overflow_add-accepted c = let few = (ready_due (goal.at.overflow_add-accepted c).After-walk-asked).free in omega (arith, few)

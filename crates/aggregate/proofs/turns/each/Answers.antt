@@ -90,8 +90,9 @@ loop-totals-smaller c =
 pub loop-totals-preserved : goal.loop-totals-preserved
 loop-totals-preserved c =
     let a = (goal.at.loop-totals-preserved c).After-request-outcome in
+    let none : c.request-outcome.result.refusal ≡ 0 = omega arith in
     let answered = to_z-of_z {w = w64} {z = c.request-outcome.result.answer} (search rules) in
-    underway_next c.loop-totals.invariant c.loop-totals-test.true (found a) (served a) (logged a) c.if-outcome-ne0.false c.store-stored.ensures.0 c.added-totals.ensures answered c.store-stored.ensures.1
+    underway_next c.loop-totals.invariant c.loop-totals-test.true (found a) (served a) (logged a) none c.store-stored.ensures.0 c.added-totals.ensures answered c.store-stored.ensures.1
 
 pub shape_of-answers : goal.shape_of-answers
 shape_of-answers c = c.loop-totals.invariant.answers_long
