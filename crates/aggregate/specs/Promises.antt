@@ -14,7 +14,7 @@ use Rattle.mechanism.specs.Requests.{says}
 use Rattle.mechanism.specs.Refusals.{Ruled}
 use Rattle.aggregate.specs.Serving.{refused, served_of, log_of}
 use Rattle.aggregate.specs.Running.{running, start, ended_as, list_refusal, ran_of, answers_of, run_log_of, earlier_of, Whole, Serves, OfWhole, OfStop, spoken_of}
-use Rattle.aggregate.specs.Running.{refused as refusedList}
+use Rattle.aggregate.specs.Running.{refused as refused_list}
 
 -- A request is refused exactly as document 01 says.
 abbrev pub RefusedExactly : Type 0
@@ -64,7 +64,7 @@ WholeExactly = (s : Session) (list : List ℕ) (places n : ℕ) → (list_refusa
 -- A list that is refused as a whole answers its number with zeros, and the session, the answer places and the log stay as they were.
 abbrev pub WholeKept : Type 0
 WholeKept = (s : Session) (list : List ℕ) (answers : List ℤ) (log : List ℕ) (place : ℕ) → 0 < list_refusal s list (length answers)
-    → (ran_of s list answers log place ≡ refusedList (list_refusal s list (length answers)) s) × (answers_of s list answers log place ≡ answers) × (run_log_of s list answers log place ≡ log)
+    → (ran_of s list answers log place ≡ refused_list (list_refusal s list (length answers)) s) × (answers_of s list answers log place ≡ answers) × (run_log_of s list answers log place ≡ log)
 
 -- The requests of a list that is not refused as a whole are served one by one, as combine and write serve them, up to the first that is refused.
 abbrev pub OneByOne : Type 0

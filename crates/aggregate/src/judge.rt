@@ -7,6 +7,7 @@ use crate::Outcome;
 use session::Session;
 
 // The refusal of a request before its walk, 0 for none: 9 is known after the walk.
+#[tactic(auto, unfolding(crate::specs::inner::Acts::early_refusal))]
 pub fn early_refusal(count: u16, accepted: u32, x: usize) -> u8
     ensures { result ≡ early_refusal count accepted x }
 {

@@ -10,7 +10,7 @@ use Rattle.tree.specs.Operation.{Op}
 use Rattle.tree.specs.Kept.{when, kept}
 use Rattle.rule.specs.Pair.{combine, write, belongs, next}
 use Rattle.rule.specs.Pair as pair
-use Rattle.messages.specs.Records.{kind_of as recordKind, width_of}
+use Rattle.messages.specs.Records.{kind_of as record_kind, width_of}
 use Rattle.messages.specs.Writing.{bits_of_all}
 use Rattle.messages.proofs.Stretches.{bits_append}
 use Rattle.requests.specs.declared.Request.{Request}
@@ -38,7 +38,7 @@ module _ (op : Op ℤ) (b : ℕ) (ranging : Ranging op) (u v : ℕ) where
   -- a request that is or is not of the pair's own list
   bits_belongs : (k : ℕ) (r : pair.Request) (near : Bool) (y : ℤ) (l : List pair.Request)
       → bits_in b k (belongs r near l) ≡ bits_of_all (when (speaks r near k) (exchange r k u v y)) + bits_in b (moves b r near k) l
-  unfolding bits_at bits_in belongs moves bits_of_all width_of recordKind
+  unfolding bits_at bits_in belongs moves bits_of_all width_of record_kind
   bits_belongs k combine true y l = omega arith
   bits_belongs zero combine false y l = refl
   bits_belongs (suc k) combine false y l = rw (ne_eqb (suc k) 0 (omega arith))

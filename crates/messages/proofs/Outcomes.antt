@@ -14,8 +14,8 @@ use Rattle.messages.proofs.code.Reads as code
 use Rattle.messages.proofs.decode.Reads as decode
 use Rattle.messages.proofs.write.Reads as write
 use Rattle.messages.proofs.read.Reads as read
-use Rattle.messages.specs.contracts.reader.LogReader.new as reader-new
-use Rattle.messages.specs.contracts.reader.LogReader.read as reader-read
+use Rattle.messages.specs.contracts.reader.LogReader.new as reader_new
+use Rattle.messages.specs.contracts.reader.LogReader.read as reader_read
 
 pub bits_once : OneResult bits.Post
 bits_once κ a x y s t p q = p ∙ sym q
@@ -38,12 +38,12 @@ read_once κ a x y s t p q = p ∙ sym q
 abbrev Reading : ((w : World) → Pr w) → Type 2
 Reading P = Read (λ w. emp w.𝓤) no_know P
 
-abbrev new_reading : (κ : Lfts 1) (a : Args reader-new.signature κ) (r : Res reader-new.signature κ) (s : AtExit reader-new.ended κ)
-    → Reading (λ w. (reader-new.clauses w.𝓛 w.𝓜.mem w.𝓡.run κ a).ensures tt r s)
+abbrev new_reading : (κ : Lfts 1) (a : Args reader_new.signature κ) (r : Res reader_new.signature κ) (s : AtExit reader_new.ended κ)
+    → Reading (λ w. (reader_new.clauses w.𝓛 w.𝓜.mem w.𝓡.run κ a).ensures tt r s)
 new_reading κ a r s = all_models _ (λ w. r_last _) (λ w. refl) (λ w. refl) (λ w. refl)
 
-abbrev read_reading : (κ : Lfts 2) (a : Args reader-read.signature κ) (e : Res reader-read.signature κ) (s : AtExit reader-read.ended κ)
-    → Reading (λ w. (reader-read.clauses w.𝓛 w.𝓜.mem w.𝓡.run κ a).ensures tt e s)
+abbrev read_reading : (κ : Lfts 2) (a : Args reader_read.signature κ) (e : Res reader_read.signature κ) (s : AtExit reader_read.ended κ)
+    → Reading (λ w. (reader_read.clauses w.𝓛 w.𝓜.mem w.𝓡.run κ a).ensures tt e s)
 read_reading κ a e s = all_models _ (λ w. r_last _) (λ w. refl) (λ w. refl) (λ w. refl)
 
 -- log and place are all of a reader

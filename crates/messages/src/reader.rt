@@ -5,7 +5,7 @@ ghost use Rattle.messages.specs.Reading.{entry_at, place_after};
 use crate::Entry;
 
 // A lent log and the place in it.
-#[derive(Drop)]
+#[derive(Clone, Copy)]
 pub struct LogReader<'a> {
     pub log: &'a [u8],
     pub place: usize,

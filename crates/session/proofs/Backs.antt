@@ -13,7 +13,7 @@ use Rattle.table.specs.Layout.{table_size}
 use Rattle.table.specs.Reading.{tree_of}
 use Rattle.table.specs.Writing as table
 use Rattle.table.specs.declared.Written.{Written}
-use Rattle.table.proofs.RoundTrip as table-laws
+use Rattle.table.proofs.RoundTrip as table_laws
 use Rattle.table.proofs.Verdicts.{table_ruled_exactly, reading_accepted}
 use Rattle.session.specs.Promises.{SessionWrittenExactly, LoadedWritesBack, WrittenLoadsBack, SessionOutputKept}
 use Rattle.session.specs.Soundness.{sound}
@@ -51,7 +51,7 @@ module _ (s : Session) (room : ℕ) where
   in_rule_lem e = (in_rule_exactly s.tree.parents s.tree.count).1 ((sound_exactly 2 s).0 e).tree_in_rule
 
   of_tree : (w : Written) → sound 2 s ≡ true → table.Answered s.tree room w → written_of s room ≡ w
-  of_tree w e a = sound_written s e room ∙ (table-laws.table_written_exactly s.tree room w).1 a
+  of_tree w e a = sound_written s e room ∙ (table_laws.table_written_exactly s.tree room w).1 a
 
   is : (w : Written) → Answered s room w → written_of s room ≡ w
   is w (six e) = unsound_written s e room
@@ -78,7 +78,7 @@ loaded_writes_back s bytes out b e l =
     let a = reading_accepted bytes ((table_ruled_exactly bytes 0).0 (read_well s bytes e)) in
     let q = load_accepts s bytes (tree_of bytes) a in
     let f = sound_holds 2 (fresh_of (tree_of bytes)) (fresh_sound 2 (tree_of bytes) q.1) in
-    let w = table-laws.table_writes_back bytes (tree_of bytes) out b a l in
+    let w = table_laws.table_writes_back bytes (tree_of bytes) out b a l in
     rw q.0 (sound_written (fresh_of (tree_of bytes)) f (length out) ∙ w.0, sound_output (fresh_of (tree_of bytes)) f out ∙ w.1)
 
 pub written_loads_back : WrittenLoadsBack
@@ -87,12 +87,12 @@ written_loads_back s o out typed z = go (sound 2 s) refl
     go : (b : Bool) → sound 2 s ≡ b → loaded_of o (take (written_of s (length out)).bytes (output_of s out)) ≡ record { refusal = 0; session = fresh_of s.tree }
     go true e =
         rw (sound_written s e (length out), sound_output s e out)
-        (load_accepts o _ s.tree (table-laws.table_reads_back s.tree out typed.parents_long (rw (sound_written s e (length out)) at z))).0
+        (load_accepts o _ s.tree (table_laws.table_reads_back s.tree out typed.parents_long (rw (sound_written s e (length out)) at z))).0
     go false e = let six : ◌≡◌ {A = ℕ} 6 0 = rw (unsound_written s e (length out)) at z in absurd (omega arith)
 
 pub session_output_kept : SessionOutputKept
 session_output_kept s out h = go (sound 2 s) refl
   where
     go : (b : Bool) → sound 2 s ≡ b → output_of s out ≡ out
-    go true e = sound_output s e out ∙ table-laws.refused_output_kept s.tree out (rw (sound_written s e (length out)) at h)
+    go true e = sound_output s e out ∙ table_laws.refused_output_kept s.tree out (rw (sound_written s e (length out)) at h)
     go false e = unsound_output s e out

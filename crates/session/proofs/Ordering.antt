@@ -27,9 +27,9 @@ pub record ByKind (ps up down : List ℕ) (n : ℕ) : Type 0 where
   pub from_above : (v : ℕ) → 0 < v → v < n → 0 < parent ps v → get_or down v 0 ≤ get_or down (parent ps v) 0
   pub to_above : (r : ℕ) → 0 < r → r < n → get_or up (parent ps r) 0 ≤ get_or up r 0
 
-module _ (ps up down : List ℕ) (n : ℕ) (inside-up : (j : ℕ) → parent ps j < length up) (inside-down : (j : ℕ) → parent ps j < length down) where
+module _ (ps up down : List ℕ) (n : ℕ) (inside_up : (j : ℕ) → parent ps j < length up) (inside_down : (j : ℕ) → parent ps j < length down) where
   inside_lows : (j : ℕ) → parent ps j < length (set down 0 255)
-  inside_lows j = rw length-set (inside-down j)
+  inside_lows j = rw length-set (inside_down j)
 
   module _ (t : ordered n ps up down ≡ true) where
     tested : (k : ℕ) → k < n - 1 → (get_or (highs ps up down k) (parent ps (suc k)) 0 ≤ get_or up (suc k) 0) × (get_or down (suc k) 0 ≤ get_or (lows ps up down k) (parent ps (suc k)) 0)
@@ -44,7 +44,7 @@ module _ (ps up down : List ℕ) (n : ℕ) (inside-up : (j : ℕ) → parent ps 
     siblings (suc r) (suc v) zr hr zv hv d e = order r v
         (λ l. le_trans (tested v (omega arith)).1 (subst (λ (p : ℕ). get_or (lows ps up down v) p 0 ≤ get_or up (suc r) 0) e (kept_child min ◌≤◌ by_min ps (set down 0 255) up inside_lows v r l)))
         (λ q. absurd (d (ap suc q)))
-        (λ l. le_trans (subst (λ (p : ℕ). get_or down (suc v) 0 ≤ get_or (highs ps up down r) p 0) (sym e) (kept_child max AtLeast by_max ps up down inside-up r v l)) (tested r (omega arith)).0)
+        (λ l. le_trans (subst (λ (p : ℕ). get_or down (suc v) 0 ≤ get_or (highs ps up down r) p 0) (sym e) (kept_child max AtLeast by_max ps up down inside_up r v l)) (tested r (omega arith)).0)
 
     from_above : (v : ℕ) → 0 < v → v < n → 0 < parent ps v → get_or down v 0 ≤ get_or down (parent ps v) 0
     from_above zero z h p = absurd (not-suc-le-zero z)
@@ -55,7 +55,7 @@ module _ (ps up down : List ℕ) (n : ℕ) (inside-up : (j : ℕ) → parent ps 
 
     to_above : (r : ℕ) → 0 < r → r < n → get_or up (parent ps r) 0 ≤ get_or up r 0
     to_above zero z h = absurd (not-suc-le-zero z)
-    to_above (suc r) z h = le_trans (kept_start max AtLeast by_max ps up down inside-up r (parent ps (suc r))) (tested r (omega arith)).0
+    to_above (suc r) z h = le_trans (kept_start max AtLeast by_max ps up down inside_up r (parent ps (suc r))) (tested r (omega arith)).0
 
     pub pass_says : ByKind ps up down n
     pass_says = record { siblings = siblings; from_above = from_above; to_above = to_above }
@@ -64,11 +64,11 @@ module _ (ps up down : List ℕ) (n : ℕ) (inside-up : (j : ℕ) → parent ps 
   module _ (o : ByKind ps up down n) (small : (j : ℕ) → 0 < j → j < n → get_or down j 0 ≤ 255) where
     high_holds : (k : ℕ) → k < n - 1 → get_or (highs ps up down k) (parent ps (suc k)) 0 ≤ get_or up (suc k) 0
     high_holds k l =
-        kept_best max AtLeast by_max ps up down inside-up (get_or up (suc k) 0) k (parent ps (suc k)) (o.to_above (suc k) (omega arith) (omega arith))
+        kept_best max AtLeast by_max ps up down inside_up (get_or up (suc k) 0) k (parent ps (suc k)) (o.to_above (suc k) (omega arith) (omega arith))
         (λ j h e. o.siblings (suc k) (suc j) (omega arith) (omega arith) (omega arith) (omega arith) (omega arith) (sym e))
 
     start_holds : (k u : ℕ) → u ≡ parent ps (suc k) → k < n - 1 → get_or down (suc k) 0 ≤ get_or (set down 0 255) u 0
-    start_holds k zero e l = rw (get_or-set_same down 0 255 0 (omega (arith, inside-down 0))) (small (suc k) (omega arith) (omega arith))
+    start_holds k zero e l = rw (get_or-set_same down 0 255 0 (omega (arith, inside_down 0))) (small (suc k) (omega arith) (omega arith))
     start_holds k (suc u) e l =
         rw (get_or-set_other down 0 (suc u) 255 0 (omega arith))
         (subst (λ (x : ℕ). get_or down (suc k) 0 ≤ get_or down x 0) (sym e) (o.from_above (suc k) (omega arith) (omega arith) (omega arith)))

@@ -3,9 +3,9 @@ use mathlib.Core.Path.{sym, ◌∙◌}
 use Rattle.fields.specs.Outcomes.{OneResult, OneOutcome}
 use Rattle.session.proofs.Session.fresh.Reads as fresh
 use Rattle.session.proofs.Session.load.Reads as load
-use Rattle.session.proofs.Session.is_sound.Reads as is-sound
-use Rattle.session.proofs.parts_are_sound.Reads as parts-are-sound
-use Rattle.session.proofs.Session.write_table.Reads as write-table
+use Rattle.session.proofs.Session.is_sound.Reads as is_sound
+use Rattle.session.proofs.parts_are_sound.Reads as parts_are_sound
+use Rattle.session.proofs.Session.write_table.Reads as write_table
 
 pub fresh_once : OneResult fresh.Post
 fresh_once κ a x y s t p q = p ∙ sym q
@@ -13,11 +13,11 @@ fresh_once κ a x y s t p q = p ∙ sym q
 pub load_once : OneResult load.Post
 load_once κ a x y s t p q = p ∙ sym q
 
-pub is_sound_once : OneResult is-sound.Post
+pub is_sound_once : OneResult is_sound.Post
 is_sound_once κ a x y s t p q = p ∙ sym q
 
-pub parts_are_sound_once : OneResult parts-are-sound.Post
+pub parts_are_sound_once : OneResult parts_are_sound.Post
 parts_are_sound_once κ a x y s t p q = p ∙ sym q
 
-pub write_table_once : OneOutcome write-table.Post (λ κ s. s.1.0.now)
+pub write_table_once : OneOutcome write_table.Post (λ κ s. s.1.0.now)
 write_table_once κ a x y s t p q = (p.0 ∙ sym q.0, p.1 ∙ sym q.1)

@@ -18,7 +18,7 @@ use Rattle.twos.specs.Twos.{within}
 use Rattle.session.specs.Holding.{Typed, Long}
 use Rattle.session.specs.declared.Pairs.{Pairs}
 use Rattle.session.specs.declared.Session.{Session}
-use Rattle.session.specs.contracts.Pairs.{the_field as pairs-field}
+use Rattle.session.specs.contracts.Pairs.{the_field as pairs_field}
 use Rattle.session.specs.contracts.Session.{the_type}
 
 -- an array has as many elements as its type says
@@ -32,7 +32,7 @@ each_small (x ∷ xs) [] a u = absurd a
 each_small (x ∷ xs) (v ∷ us) a zero = lt-ltb (mag x) (2 ^ 31) a.0.1
 each_small (x ∷ xs) (v ∷ us) a (suc u) = each_small xs us a.1 u
 
-pairs_long : (p : Pairs) (vs : List Val) → shadow (pairs-field.row.own_val (pairs-field.into p) vs) → Long p
+pairs_long : (p : Pairs) (vs : List Val) → shadow (pairs_field.row.own_val (pairs_field.into p) vs) → Long p
 pairs_long p vs a =
     record {
       leases = array_long u8 tt 256 p.lease _ a.1.1.0;

@@ -52,6 +52,7 @@ impl Session {
 
     // A session that has zeros in all but the tree. Refusal: 6 the tree is out of rule; the session
     // then has zeros alone.
+    #[tactic(auto, unfolding(crate::specs::Starting::started_of))]
     pub fn fresh(tree: Tree) -> Started
         ensures { result ≡ started_of tree }
     {
@@ -72,6 +73,7 @@ impl Session {
 
     // A fresh session of the tree of a table. Refusals: those of the table; the session is then the
     // one that it would replace.
+    #[tactic(auto, using(crate::proofs::Starts::loads, crate::proofs::Starts::loads_not))]
     pub fn load(self, bytes: &[u8]) -> Started
         ensures { result ≡ loaded_of self bytes.now }
     {
@@ -106,6 +108,7 @@ impl Session {
     // Writes the table of the session's tree into the first bytes, and leaves later ones as they are.
     // Refusals: 6 the session is unsound, 9 the output is too short. Where writing is refused, nothing
     // is changed.
+    #[tactic(auto, unfolding(crate::specs::Tables::written_of, crate::specs::Tables::output_of))]
     pub fn write_table(self, out: &mut [u8]) -> Written
         ensures { (result ≡ written_of self (length out.old)) × (out.new ≡ output_of self out.old) }
     {

@@ -124,7 +124,7 @@ module _ (ps : List ℕ) (n : ℕ) (grown : Grown ps n) (go : ℕ → ℕ → Bo
       across d o true p = ap (λ s. s && true) (edge ps n grown b a v u hv hu p c o d)
       across d o false p = and-false (side ps b a v) ∙ sym (and-false (side ps b a u))
 
-  module _ (about : ℕ → ℕ → M → Bool) (before after : ℕ → ℕ → List M) (of-before : OfItsPair ps n about before) (of-after : OfItsPair ps n about after) where
+  module _ (about : ℕ → ℕ → M → Bool) (before after : ℕ → ℕ → List M) (of_before : OfItsPair ps n about before) (of_after : OfItsPair ps n about after) where
     abbrev told : List M → List M
     told = kept (about a b)
 
@@ -140,7 +140,7 @@ module _ (ps : List ℕ) (n : ℕ) (grown : Grown ps n) (go : ℕ → ℕ → Bo
     once zero u v l hu hv c g = absurd (omega (arith, size_least ps n grown u v hu c))
     once (suc k) u v l hu hv c g =
         kept_append (about a b) (before u v) (gap ++ after u v)
-        ∙ ap₂ ◌++◌ (of_pair before of-before u v hu hv c) (kept_append (about a b) gap (after u v) ∙ ap₂ ◌++◌ (onward_kept ps n go u v hu (about a b) (λ w. visit ps n go before after k w u)) (of_pair after of-after u v hu hv c))
+        ∙ ap₂ ◌++◌ (of_pair before of_before u v hu hv c) (kept_append (about a b) gap (after u v) ∙ ap₂ ◌++◌ (onward_kept ps n go u v hu (about a b) (λ w. visit ps n go before after k w u)) (of_pair after of_after u v hu hv c))
         ∙ gather (before a b) (after a b) u v hu hv c g (λ w. told (visit ps n go before after k w u)) (λ w hw t.
         let e = goes ps go u v w t in
         once k w u (omega (arith, size_less ps n grown u v hu c w hw e.0 e.1)) hw hu (adjacent_sym ps u w ∙ e.0) e.2)
@@ -164,7 +164,7 @@ module _ (ps : List ℕ) (n : ℕ) (grown : Grown ps n) (go : ℕ → ℕ → Bo
             once k w x (omega (arith, sizes_add ps n grown w x hw hx c)) hw hx c e.2
 
 pub visited_once : VisitedOnce
-visited_once ps n grown go closed M about before after of-before of-after a b ha hb = from_start ps n grown go closed a b ha hb about before after of-before of-after
+visited_once ps n grown go closed M about before after of_before of_after a b ha hb = from_start ps n grown go closed a b ha hb about before after of_before of_after
 
 module _ (ps : List ℕ) (n : ℕ) (grown : Grown ps n) {M : Type 0} (go : ℕ → ℕ → Bool) (before after : ℕ → ℕ → List M) where
   -- two falling numbers that are both enough

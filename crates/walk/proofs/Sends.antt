@@ -77,15 +77,15 @@ module _ {q : View} {u v : ℕ} {z : ℤ} {w : ℕ} {y : ℤ} where
   pub told_back : w ≡ v → {f : ℕ} {t : Trace} → Told q f u v z w y t y t
   told_back e {f} {t} = record { sums = rw (other_back q u v w e); logs = rw (sends_not q u v w f z (other_back q u v w e), pushed_all-none t) }
 
-  module _ {first next : List ℕ} {later-up later-down : List ℤ} (h : Telling q first next later-up later-down u v z w y) where
+  module _ {first next : List ℕ} {later_up later_down : List ℤ} (h : Telling q first next later_up later_down u v z w y) where
     here : w < q.count
     here = rw h.turned at (turn_inside q.count u h.spreading.inside h.place h.inside)
 
     pub both_small : (u < 256) × (w < 256)
     both_small = (omega (arith, h.spreading.inside, h.spreading.steady.room), omega (arith, here, h.spreading.steady.room))
 
-  module _ {first next : List ℕ} {later-up later-down : List ℤ} (h : Telling q first next later-up later-down u v z w y) (d : w ≢ v) where
-    abbrev at : Spreading q first next later-up later-down u v z
+  module _ {first next : List ℕ} {later_up later_down : List ℤ} (h : Telling q first next later_up later_down u v z w y) (d : w ≢ v) where
+    abbrev at : Spreading q first next later_up later_down u v z
     at = h.spreading
 
     yes : other q.parents u v w ≡ true
@@ -100,7 +100,7 @@ module _ {q : View} {u v : ℕ} {z : ℤ} {w : ℕ} {y : ℤ} where
     pub told_none : {a y' : ℤ} → a ≡ known q w u → y' ≡ y +ℤ a → {l : ℕ} → l ≡ q.lease u w → l ≡ 0 → {f : ℕ} {t : Trace} → Told q f u v z w y t y' t
     told_none e i leased n {f} {t} = record { sums = rw (yes, ← e) i; logs = rw (sends_none q u v w f z yes leased n, pushed_all-none t) }
 
-    module _ {l : ℕ} (leased : l ≡ q.lease u w) (some : l ≢ 0) {b : ℤ} (laid : b ≡ pair_at (pos 0) later-up later-down u w) where
+    module _ {l : ℕ} (leased : l ≡ q.lease u w) (some : l ≢ 0) {b : ℤ} (laid : b ≡ pair_at (pos 0) later_up later_down u w) where
       -- what u sends to w: its sum before w, and what was laid by
       whole : y +ℤ b ≡ carried sum q u v z w
       whole = sym (
@@ -115,7 +115,7 @@ module _ {q : View} {u v : ℕ} {z : ℤ} {w : ℕ} {y : ℤ} where
           range_wide q.count (size q.parents q.count u w) (y +ℤ b) at.steady.room (size_most q.parents q.count at.steady.grown u w at.inside (here h) h.beside) part
 
       module _ {p : ℤ} (e : p ≡ y +ℤ b) where
-        pub spreading_on : Spreading q first next later-up later-down w u p
+        pub spreading_on : Spreading q first next later_up later_down w u p
         spreading_on =
             record {
               x = at.x;
@@ -185,7 +185,7 @@ module _ (q : View) (u v : ℕ) (z : ℤ) where
   spread_some (suc f) d = rw sub-one
 
 module _ {q : View} {u v : ℕ} {z : ℤ} where
-  pub start_fits : {first next : List ℕ} {later-up later-down : List ℤ} → Spreading q first next later-up later-down u v z → SFits w64 (q.value u +ℤ z)
+  pub start_fits : {first next : List ℕ} {later_up later_down : List ℤ} → Spreading q first next later_up later_down u v z → SFits w64 (q.value u +ℤ z)
   unfolding before
   start_fits s =
       range_wide q.count q.count (q.value u +ℤ z) s.steady.room (le_refl q.count) (before_in q s.steady s.x u v z s.told s.inside s.come 0 (omega arith))
@@ -214,13 +214,13 @@ module _ {q : View} {u v : ℕ} {z : ℤ} where
               };
         }
 
-    pub telling : {first next : List ℕ} {later-up later-down : List ℤ} {k w : ℕ} {t' : Trace}
-        → Spreading q first next later-up later-down u v z → k < q.count → w ≡ turn q.count u k → Standing q f u v z k t y t' → Telling q first next later-up later-down u v z w y
+    pub telling : {first next : List ℕ} {later_up later_down : List ℤ} {k w : ℕ} {t' : Trace}
+        → Spreading q first next later_up later_down u v z → k < q.count → w ≡ turn q.count u k → Standing q f u v z k t y t' → Telling q first next later_up later_down u v z w y
     unfolding neighbour_at
     telling {k = k} s h e a = record { spreading = s; place = k; inside = h; turned = sym e; beside = rw e (a.beside h); sums = a.partly.sums }
 
-    pub placed : {first next : List ℕ} {later-up later-down : List ℤ} {k : ℕ} {t' : Trace} {z' : ℤ}
-        → Spreading q first next later-up later-down u v z' → k < q.count → Standing q f u v z k t y t' → Placed q.count q.parents first next u k
+    pub placed : {first next : List ℕ} {later_up later_down : List ℤ} {k : ℕ} {t' : Trace} {z' : ℤ}
+        → Spreading q first next later_up later_down u v z' → k < q.count → Standing q f u v z k t y t' → Placed q.count q.parents first next u k
     placed s h a = record { room = s.steady.room; inside = s.inside; place = h; beside = a.beside h; linked = s.linked }
 
     pub spread_all : {k : ℕ} {t' : Trace} → f ≢ 0 → q.count ≤ k → Standing q (f - 1) u v z k t y t' → Spread q f u v z t t'

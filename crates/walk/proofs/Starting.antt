@@ -34,7 +34,7 @@ module _ {q : View} {x : ℕ} (steady : Steady q) (hx : x < q.count) where
         fits = λ u m hu l. range_wide q.count q.count (later q x u m) steady.room (le_refl q.count) (later_in q steady x u m hu l);
       }
 
-  pub spreading_first : {first next : List ℕ} {later-up later-down : List ℤ} → Linked q.count q.parents first next → Passed q x later-up later-down
-      → Spreading q first next later-up later-down x x (pos 0)
+  pub spreading_first : {first next : List ℕ} {later_up later_down : List ℤ} → Linked q.count q.parents first next → Passed q x later_up later_down
+      → Spreading q first next later_up later_down x x (pos 0)
   spreading_first linked passed =
       record { x = x; start = hx; inside = hx; come = hx; steady = steady; linked = linked; passed = passed; told = come_first q x steady.grown hx }

@@ -37,19 +37,19 @@ before q u v z zero = q.value u +ℤ z
 before q u v z (suc k) = add_if sum q (other q.parents u v (turn q.count u k)) (before q u v z k) (known q (turn q.count u k) u)
 
 -- u, told z by v, may tell its neighbours
-pub record Spreading (q : View) (first next : List ℕ) (later-up later-down : List ℤ) (u v : ℕ) (z : ℤ) : Type 0 where
+pub record Spreading (q : View) (first next : List ℕ) (later_up later_down : List ℤ) (u v : ℕ) (z : ℤ) : Type 0 where
   pub x : ℕ
   pub start : x < q.count
   pub inside : u < q.count
   pub come : v < q.count
   pub steady : Steady q
   pub linked : Linked q.count q.parents first next
-  pub passed : Passed q x later-up later-down
+  pub passed : Passed q x later_up later_down
   pub told : Come q x u v z
 
 -- u, told z by v, may tell its neighbour w
-pub record Telling (q : View) (first next : List ℕ) (later-up later-down : List ℤ) (u v : ℕ) (z : ℤ) (w : ℕ) (y : ℤ) : Type 0 where
-  pub spreading : Spreading q first next later-up later-down u v z
+pub record Telling (q : View) (first next : List ℕ) (later_up later_down : List ℤ) (u v : ℕ) (z : ℤ) (w : ℕ) (y : ℤ) : Type 0 where
+  pub spreading : Spreading q first next later_up later_down u v z
   pub place : ℕ
   pub inside : place < q.count
   pub turned : turn q.count u place ≡ w
