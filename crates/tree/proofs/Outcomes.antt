@@ -1,12 +1,12 @@
 -- Each public contract leaves one outcome. It is the function's own contract, as its source states it: `Post` of its `Reads`.
 use mathlib.Core.Path.{sym, ◌∙◌}
 use Rattle.fields.specs.Outcomes.{OneResult}
-use Rattle.tree.proofs.Tree.in_rule.Reads as in_rule_lem
+use Rattle.tree.proofs.Tree.in_rule.Reads as in_rule
 use Rattle.tree.proofs.Tree.neighbours.Reads as neighbours
 use Rattle.tree.proofs.Tree.is_below.Reads as is_below
 use Rattle.tree.proofs.Tree.sizes.Reads as sizes
 
-pub in_rule_once : OneResult in_rule_lem.Post
+pub in_rule_once : OneResult in_rule.Post
 in_rule_once κ a x y s t p q = p ∙ sym q
 
 pub neighbours_once : OneResult neighbours.Post
