@@ -3,7 +3,7 @@ use mathlib.Core.Path.{sym, ap₂, ◌∙◌}
 use mathlib.Core.List.{List}
 use Prim.Native.Nat.{ℕ}
 use lib.IntN.{ℤ}
-use Rattle.fields.specs.Outcomes.{OneOutcome}
+use Rattle.refusal.specs.Outcomes.{OneOutcome}
 use Rattle.aggregate.proofs.combine.Reads as combine
 use Rattle.aggregate.proofs.write.Reads as write
 use Rattle.aggregate.proofs.run.Reads as run

@@ -1,6 +1,6 @@
 -- Each public contract leaves one outcome. It is the function's own contract, as its source states it: `Post` of its `Reads`.
 use mathlib.Core.Path.{sym, ◌∙◌}
-use Rattle.fields.specs.Outcomes.{OneResult, OneOutcome}
+use Rattle.refusal.specs.Outcomes.{OneResult, OneOutcome}
 use Rattle.fields.proofs.room.usable_bits.Reads as usable_bits
 use Rattle.fields.proofs.get.Reads as get
 use Rattle.fields.proofs.put.Reads as put

@@ -3,4 +3,3 @@ pub mod Bits
 pub mod Fields
 pub mod Usable
 pub mod Promises
-pub mod Outcomes

@@ -7,7 +7,7 @@ use borrow.Fn.World.{World, Pr}
 use contract.Lifetimes.{Lfts}
 use denote.Triple.Clauses.{AtExit}
 use denote.Triple.Entry.{Args, Res}
-use Rattle.fields.specs.Outcomes.{OneResult, OneOutcome}
+use Rattle.refusal.specs.Outcomes.{OneResult, OneOutcome}
 use Rattle.messages.specs.declared.reader.LogReader.{LogReader}
 use Rattle.messages.proofs.bits.Reads as bits
 use Rattle.messages.proofs.code.Reads as code

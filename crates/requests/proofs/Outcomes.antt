@@ -1,6 +1,6 @@
 -- Each public contract leaves one outcome. It is the function's own contract, as its source states it: `Post` of its `Reads`.
 use mathlib.Core.Path.{sym, ◌∙◌}
-use Rattle.fields.specs.Outcomes.{OneResult}
+use Rattle.refusal.specs.Outcomes.{OneResult}
 use Rattle.requests.proofs.judge.Reads as judge
 use Rattle.requests.proofs.request_at.Reads as request_at
 

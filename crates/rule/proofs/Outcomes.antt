@@ -1,6 +1,6 @@
 -- Each public contract leaves one outcome. It is the function's own contract, as its source states it: `Post` of its `Reads`.
 use mathlib.Core.Path.{sym, ◌∙◌}
-use Rattle.fields.specs.Outcomes.{OneResult}
+use Rattle.refusal.specs.Outcomes.{OneResult}
 use Rattle.rule.proofs.Rule.after_combines.Reads as after_combines
 use Rattle.rule.proofs.Rule.after_writes.Reads as after_writes
 

@@ -1,6 +1,6 @@
 -- Each public contract leaves one outcome. It is the function's own contract, as its source states it: `Post` of its `Reads`.
 use mathlib.Core.Path.{sym, ◌∙◌}
-use Rattle.fields.specs.Outcomes.{OneResult, OneOutcome}
+use Rattle.refusal.specs.Outcomes.{OneResult, OneOutcome}
 use Rattle.session.proofs.Session.fresh.Reads as fresh
 use Rattle.session.proofs.Session.load.Reads as load
 use Rattle.session.proofs.Session.is_sound.Reads as is_sound

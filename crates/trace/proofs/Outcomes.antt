@@ -1,6 +1,6 @@
 -- Each public contract leaves one outcome. It is the function's own contract, as its source states it: `Post` of its `Reads`.
 use mathlib.Core.Path.{sym, ap, ◌∙◌}
-use Rattle.fields.specs.Outcomes.{OneOutcome}
+use Rattle.refusal.specs.Outcomes.{OneOutcome}
 use Rattle.trace.specs.inner.Traces.{Trace}
 use Rattle.trace.proofs.push.Reads as push
 use Rattle.trace.proofs.log.Reads as log

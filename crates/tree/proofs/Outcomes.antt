@@ -1,6 +1,6 @@
 -- Each public contract leaves one outcome. It is the function's own contract, as its source states it: `Post` of its `Reads`.
 use mathlib.Core.Path.{sym, ◌∙◌}
-use Rattle.fields.specs.Outcomes.{OneResult}
+use Rattle.refusal.specs.Outcomes.{OneResult}
 use Rattle.tree.proofs.Tree.in_rule.Reads as in_rule
 use Rattle.tree.proofs.Tree.neighbours.Reads as neighbours
 use Rattle.tree.proofs.Tree.is_below.Reads as is_below

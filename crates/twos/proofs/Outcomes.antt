@@ -1,6 +1,6 @@
 -- Each public contract leaves one outcome. It is the function's own contract, as its source states it: `Post` of its `Reads`.
 use mathlib.Core.Path.{sym, ◌∙◌}
-use Rattle.fields.specs.Outcomes.{OneResult}
+use Rattle.refusal.specs.Outcomes.{OneResult}
 use Rattle.twos.proofs.encode.Reads as encode
 use Rattle.twos.proofs.encode32.Reads as encode32
 use Rattle.twos.proofs.decode.Reads as decode

@@ -1,0 +1,3 @@
+-- The laws of refusals' numbers.
+pub mod Numbers
+pub mod Outcomes
