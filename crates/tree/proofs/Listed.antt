@@ -1,16 +1,17 @@
 -- Lists given by a function of the place: read, changed at one place, compared.
 use mathlib.Core.Path.{◌≡◌, refl, sym, ap, ◌∙◌}
 use mathlib.Core.List.{List, [], ◌∷◌, ◌++◌}
-use Prim.Native.Nat.{ℕ, zero, suc, ◌+◌, ◌<◌}
+use Prim.Native.Nat.{ℕ, zero, suc, ◌+◌, ◌-◌, ◌<◌, ◌≤◌}
 use native.Mathlib.Nat.{not-suc-le-zero}
 use native.Mathlib.Decide.{ℕ_discrete}
 use native.Mathlib.Omega.{arith}
-use lib.ListN.{length, get_or, set, replicate, length-set, length-replicate, get_or-replicate}
+use lib.ListN.{length, get_or, set, take, drop, replicate, length-set, length-append, length-replicate, get_or-append, get_or-replicate}
+use Rattle.std.proofs.lemmas.List.{length-drop, length-take-le, get_or-append_right, get_or-drop}
 use lib.Seq.{ext_get_or, get_or-set_same, get_or-set_other}
 use borrow.Author.Tests.{lt-ltb, le-ltb}
 use Rattle.tree.specs.Sizes.{size_below, ones, listed, sizes}
 use Rattle.tree.specs.Promises.{SizesRead}
-use Rattle.tree.proofs.Cases.{either, order}
+use Rattle.tree.proofs.Cases.{either, order, lt_or_le}
 use Rattle.tree.proofs.InRule.{in_rule_exactly}
 
 length_end : (l : List ℕ) (a : ℕ) → length (l ++ (a ∷ [])) ≡ suc (length l)
@@ -55,12 +56,22 @@ listed_set f g n p a h here else = is_listed (set (listed f n) p a) g n (rw leng
     (λ e. rw e (get_or-set_same (listed f n) p a 0 (omega (arith, listed_length f n)) ∙ sym here))
     (λ d. get_or-set_other (listed f n) p i a 0 d ∙ listed_read f n i l ∙ else i l d))
 
--- one node more
-pub ones_more : (k : ℕ) → k < 256 → set (listed (ones k) 256) k 1 ≡ listed (ones (k + 1)) 256
-ones_more k h = listed_set (ones k) (ones (k + 1)) 256 k 1 h (rw (lt-ltb k (k + 1) (omega arith))) (λ i l d. order i k
-    (λ m. rw (lt-ltb i k m, lt-ltb i (k + 1) (omega arith)))
-    (λ e. absurd (d e))
-    (λ m. rw (le-ltb i k (omega arith), le-ltb i (k + 1) (omega arith))))
+-- zeros of which the first n are made ones
+pub ones_first : (n : ℕ) (zeros l : List ℕ) → n ≤ 256 → zeros ≡ replicate 256 0 → l ≡ replicate (length (take n zeros)) 1 → l ++ drop n zeros ≡ listed (ones n) 256
+ones_first n zeros l h z e = is_listed (l ++ drop n zeros) (ones n) 256
+    (omega (arith, length-append l (drop n zeros), length-drop n zeros, all, long))
+    (λ i k. lt_or_le i n
+    (λ m. rw (lt-ltb i n m) (get_or-append l (drop n zeros) 0 i (omega (arith, long)) ∙ rw e (get_or-replicate (length (take n zeros)) i 1 0 (omega (arith, short)))))
+    (λ m. rw (le-ltb i n m) (get_or-append_right l (drop n zeros) n i 0 long m ∙ get_or-drop n zeros (i - n) 0 ∙ rw z (get_or-replicate 256 (n + (i - n)) 0 0 (omega arith)))))
+  where
+    all : length zeros ≡ 256
+    all = ap length z ∙ length-replicate {A = ℕ} 256 0
+
+    short : length (take n zeros) ≡ n
+    short = length-take-le n zeros (omega (arith, all))
+
+    long : length l ≡ n
+    long = ap length e ∙ length-replicate {A = ℕ} (length (take n zeros)) 1 ∙ short
 
 pub sizes_read : SizesRead
 unfolding sizes
