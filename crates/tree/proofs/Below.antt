@@ -42,6 +42,8 @@ module _ (ps : List ℕ) (i : ℕ) where
   climb_on m p k zero e f h d = absurd (not-suc-le-zero h)
   climb_on m p k (suc j) e f h d = rw (e, f, ne_eqb (suc j) i d)
 
+pub ruleset climb_turns = (climb_ends, climb_root, climb_meets, climb_on)
+
 module _ (ps : List ℕ) (n : ℕ) (grown : Grown ps n) where
   -- more steps than the node's number find nothing more
   enough : (i k m j : ℕ) → j ≤ k → j ≤ m → j < n → climb ps i k j ≡ climb ps i m j

@@ -163,3 +163,5 @@ module _ (ps : List ℕ) (n : ℕ) (r : InRule ps n) where
         ap (λ s. set s p (get_or l p 0 + get_or l (c - 1) 0)) now
         ∙ listed_set (held ps n c) (held ps n (c - 1)) 256 p (get_or l p 0 + get_or l (c - 1) 0) (omega (arith, parent_inside, r.few)) passed
         (λ i k d. ap (λ m. held ps n m i) (sym next_is) ∙ turn_else ps n r.grown (c - 1) (omega arith) (omega arith) i (λ o. d (o ∙ sym is)))
+
+pub ruleset pass_laws = (pass_starts, pass_ends, sum_most, pass_turn)

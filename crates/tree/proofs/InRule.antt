@@ -40,6 +40,8 @@ module _ (ps : List ℕ) (n : ℕ) where
   unfolding in_rule
   within_bounds a b = rw (le-leb 1 n a, le-leb n 256 b)
 
+pub ruleset by_count = (none_fails, many_fail, within_bounds)
+
 -- the root's entry and the passes over the used and the unused entries
 pub passes_say : (ps used unused : List ℕ) (n : ℕ) → 1 ≤ n → n ≤ 256 → length ps ≡ 256 → used ≡ take n ps → unused ≡ drop n ps
     → ((eqb (parent used 0) 0 && every (from 1 (λ i. ltb (parent used i) i)) (length used)) && every (λ i. eqb (parent unused i) 0) (length unused)) ≡ every (place_in_rule ps n) 256

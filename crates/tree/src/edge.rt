@@ -43,7 +43,7 @@ impl Tree {
     }
 
     // Climbs from j until it meets i or the root, or has taken as many steps as j is large.
-    #[tactic(auto, using(crate::proofs::Below::climb_ends, crate::proofs::Below::climb_root, crate::proofs::Below::climb_meets, crate::proofs::Below::climb_on), unfolding(crate::specs::Sides::below))]
+    #[tactic(auto, using(crate::proofs::Below::climb_turns), unfolding(crate::specs::Sides::below))]
     fn climbs(&self, i: usize, j: usize) -> bool
         ensures { result ≡ sides.below self.now.parents i j }
     {

@@ -9,7 +9,7 @@ use crate::Tree;
 impl Tree {
     // Whether the tree is in rule: 1 to 256 nodes, each parent smaller than its child, and entries
     // not used zero.
-    #[tactic(auto, using(crate::proofs::InRule::none_fails, crate::proofs::InRule::many_fail, crate::proofs::InRule::within_bounds))]
+    #[tactic(auto, using(crate::proofs::InRule::by_count))]
     pub fn in_rule(&self) -> bool
         ensures { result ≡ in_rule self.now.parents self.now.count }
     {
@@ -23,7 +23,7 @@ impl Tree {
         ensures { result ≡ every (place_in_rule self.now.parents self.now.count) 256 }
     {
         let (used, unused) = self.parents.split_at(usize::from(self.count));
-        (used[0] == 0) & grown(used) & zero(unused)
+        (used[0] == 0) & grown(used) & all_zero(unused)
     }
 }
 
@@ -42,7 +42,7 @@ fn grown(parents: &[u8]) -> bool
 
 // Whether every entry is zero.
 #[tactic(auto, using(crate::proofs::Every::every_none, crate::proofs::Every::every_next))]
-fn zero(entries: &[u8]) -> bool
+fn all_zero(entries: &[u8]) -> bool
     ensures { result ≡ every (λ i. eqb (parent entries.now i) 0) (length entries.now) }
 {
     let mut good = true;

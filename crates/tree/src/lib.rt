@@ -5,9 +5,9 @@
 // tree, and of what is folded and walked over it, are mathematics: they stand in specs/ and proofs/.
 #![tactic(auto)]
 
-mod edge; // neighbours, and the way to the root
-mod entry; // which entries are in rule
-mod pass; // the sizes of all sides
+mod edge; // neighbours, is_below
+mod entry; // in_rule
+mod pass; // sizes
 
 // The nodes are 0 to count - 1. Entry 0 of parents, and those from count on, are not used and zero.
 #[repr(C)]

@@ -22,6 +22,7 @@ impl Tree {
 
     // The sizes below all nodes. A node has all that is below it when its turn comes, since its
     // children are larger, and is then added to its parent.
+    #[tactic(auto, using(crate::proofs::Downward::pass_laws))]
     fn summed(&self) -> [u16; 256]
         requires { InRule self.now.parents self.now.count }
         ensures { result ≡ listed (size_below self.now.parents self.now.count) 256 }
