@@ -1,7 +1,7 @@
 // Neighbours, and the way to the root.
 ghost use Rattle.std.specs.Prelude.{◌≡◌};
-ghost use Rattle.tree.specs.Parents as specs;
-ghost use Rattle.tree.specs.Sides as sides;
+ghost use Rattle.tree.specs.Parents.{parent};
+ghost use Rattle.tree.specs.Sides.{below, nodes, is_below, adjacent, neighbours};
 
 use crate::Tree;
 
@@ -9,7 +9,7 @@ impl Tree {
     // Whether u and w are neighbours.
     #[tactic(auto, unfolding(crate::specs::Sides::neighbours))]
     pub fn neighbours(&self, u: usize, w: usize) -> bool
-        ensures { result ≡ sides.neighbours self.now.parents self.now.count u w }
+        ensures { result ≡ neighbours self.now.parents self.now.count u w }
     {
         self.has(u, w) && self.adjacent(u, w)
     }
@@ -17,7 +17,7 @@ impl Tree {
     // Whether node j is node i or below it.
     #[tactic(auto, unfolding(crate::specs::Sides::is_below))]
     pub fn is_below(&self, i: usize, j: usize) -> bool
-        ensures { result ≡ sides.is_below self.now.parents self.now.count i j }
+        ensures { result ≡ is_below self.now.parents self.now.count i j }
     {
         self.has(i, j) && self.climbs(i, j)
     }
@@ -25,7 +25,7 @@ impl Tree {
     // Whether u and w are both nodes.
     #[tactic(auto, unfolding(crate::specs::Sides::nodes))]
     fn has(&self, u: usize, w: usize) -> bool
-        ensures { result ≡ sides.nodes self.now.count u w }
+        ensures { result ≡ nodes self.now.count u w }
     {
         let count = usize::from(self.count);
         u < count && w < count
@@ -33,7 +33,7 @@ impl Tree {
 
     // Whether of u and w the smaller is the parent of the larger.
     fn adjacent(&self, u: usize, w: usize) -> bool
-        ensures { result ≡ sides.adjacent self.now.parents u w }
+        ensures { result ≡ adjacent self.now.parents u w }
     {
         if u < w {
             self.parent(w) == u
@@ -45,7 +45,7 @@ impl Tree {
     // Climbs from j until it meets i or the root, or has taken as many steps as j is large.
     #[tactic(auto, using(crate::proofs::Below::climb_turns), unfolding(crate::specs::Sides::below))]
     fn climbs(&self, i: usize, j: usize) -> bool
-        ensures { result ≡ sides.below self.now.parents i j }
+        ensures { result ≡ below self.now.parents i j }
     {
         let mut at = j;
         for _ in 0..j {
@@ -62,7 +62,7 @@ impl Tree {
 
     // The parent of node i, 0 where there is no entry.
     fn parent(&self, i: usize) -> usize
-        ensures { result ≡ specs.parent self.now.parents i }
+        ensures { result ≡ parent self.now.parents i }
     {
         self.parents.get(i).map_or(0, |p| usize::from(*p))
     }

@@ -17,9 +17,11 @@ impl Tree {
     }
 
     // Whether all entries are in rule: the root's and those from the count on are zero, and each
-    // parent is smaller than its child. A pass goes over all its places, whatever it finds.
+    // parent is smaller than its child. A pass goes over all its places, whatever it finds, so that
+    // many are taken at once.
     fn entries_in_rule(&self) -> bool
-        requires { (1 ≤ self.now.count) × (self.now.count ≤ 256) }
+        requires some { 1 ≤ self.now.count }
+        requires few { self.now.count ≤ 256 }
         ensures { result ≡ every (place_in_rule self.now.parents self.now.count) 256 }
     {
         let (used, unused) = self.parents.split_at(usize::from(self.count));
@@ -34,8 +36,8 @@ fn grown(parents: &[u8]) -> bool
     ensures { result ≡ every (from 1 (λ i. ltb (parent parents.now i) i)) (length parents.now) }
 {
     let mut good = true;
-    for i in 1..parents.len() {
-        good &= usize::from(parents[i]) < i;
+    for node in 1..parents.len() {
+        good &= usize::from(parents[node]) < node;
     }
     good
 }

@@ -1,8 +1,7 @@
 // The sizes of all sides, in one pass from the last node down.
 ghost use Rattle.std.specs.Prelude.{◌≡◌, ◌≤◌};
 ghost use Rattle.tree.specs.Parents.{InRule};
-ghost use Rattle.tree.specs.Sizes as spec;
-ghost use Rattle.tree.specs.Sizes.{size_below, listed, ones};
+ghost use Rattle.tree.specs.Sizes.{size_below, ones, listed, sizes};
 
 use crate::Tree;
 
@@ -11,7 +10,7 @@ impl Tree {
     // other side has the rest. 0 where there is no such node, and where the tree is out of rule.
     #[tactic(auto, using(crate::proofs::InRule::in_rule_exactly), unfolding(crate::specs::Sizes::sizes))]
     pub fn sizes(&self) -> [u16; 256]
-        ensures { result ≡ spec.sizes self.now.parents self.now.count }
+        ensures { result ≡ sizes self.now.parents self.now.count }
     {
         if self.in_rule() {
             self.summed()

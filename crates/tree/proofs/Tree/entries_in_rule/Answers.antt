@@ -6,4 +6,4 @@ use Rattle.tree.proofs.Tree.entries_in_rule.Goals as goal
 pub returns : goal.returns
 returns c =
     let s = c.split_at.ensures in
-    rw (c.grown.ensures, c.all_zero.ensures) (passes_say _ _ _ _ c.requires.0 c.requires.1 (search rules) (rw c.from.ensures at s.front) (rw c.from.ensures at s.back))
+    rw (c.grown.ensures, c.all_zero.ensures) (passes_say _ _ _ _ c.requires.some c.requires.few (search rules) (rw c.from.ensures at s.front) (rw c.from.ensures at s.back))

@@ -6,5 +6,5 @@ use Rattle.tree.specs.Every.{every}
 use Rattle.tree.specs.Parents.{parent}
 use Rattle.tree.proofs.entry.grown.Given as goal
 
-abbrev pub invariant-loop-i : goal.invariant-loop-i
-invariant-loop-i l = l.good ≡ every (from 1 (λ j. ltb (parent l.parents j) j)) l.i
+abbrev pub invariant-loop-node : goal.invariant-loop-node
+invariant-loop-node l = l.good ≡ every (from 1 (λ j. ltb (parent l.parents j) j)) l.node
