@@ -1,13 +1,13 @@
 -- The limits of an entry, and what they say together.
 use mathlib.Core.Path.{◌≡◌, refl, sym, ap, ap₂, ◌∙◌}
-use mathlib.Core.Bool.{Bool, true, false, not, ◌&&◌, true≢false, and-eq-true_iff}
+use mathlib.Core.Bool.{true, ◌&&◌, true≢false, and-eq-true_iff}
 use Prim.Native.Nat.{ℕ, zero, suc, ◌*◌, ◌^◌, ◌≤◌, ◌<◌}
 use native.Mathlib.Omega.{arith}
-use lib.Dec.{eqb, leb, ltb}
+use lib.Dec.{eqb, leb}
 use lib.Bits.{bit_or, or_add_and, and_le_l, and_le_r}
 use lib.IntN.{ℤ, pos, negsuc, neg_ℤ}
-use lib.Signed.{le_z, lt_z, mag}
-use borrow.Author.Tests.{leb-true, ltb-true, ltb-false, le-leb, lt-leb, eqb-true, eq-eqb}
+use lib.Signed.{le_z, mag}
+use borrow.Author.Tests.{leb-true, le-leb, eqb-true, eq-eqb}
 use mir.Syntax.{Width, w64}
 use mir.Val.{SFits, to_z, of_z}
 use mir.Facts.{to_z-of_z, of_z-to_z, Fits-or, Fits-of_z}
@@ -23,28 +23,6 @@ least_size (suc x) h = omega arith
 
 pub least_fits : (k : ℕ) → k < 2 ^ 32 → SFits w64 (neg_ℤ (pos (k * 2147483648)))
 least_fits k h = record { sfits = least_size (k * 2147483648) (omega arith) }
-
-ends_below : (a b : ℕ) → leb a b ≡ not (ltb b a)
-ends_below a b = go (ltb b a) refl
-  where
-    go : (t : Bool) → ltb b a ≡ t → leb a b ≡ not t
-    go true e = lt-leb a b (ltb-true b a e)
-    go false e = le-leb a b (ltb-false b a e)
-
-not_below : (y z : ℤ) → le_z y z ≡ not (lt_z z y)
-not_below (pos a) (pos b) = ends_below a b
-not_below (pos a) (negsuc b) = refl
-not_below (negsuc a) (pos b) = refl
-not_below (negsuc a) (negsuc b) = ends_below b a
-
-module _ (k : ℕ) (z : ℤ) where
-  pub below_range : lt_z z (neg_ℤ (pos (k * 2147483648))) ≡ true → in_range k z ≡ false
-  unfolding in_range
-  below_range e = rw (not_below (neg_ℤ (pos (k * 2147483648))) z, e)
-
-  pub end_left : (y : ℕ) → y ≡ k * 2147483647 → lt_z z (neg_ℤ (pos (k * 2147483648))) ≡ false → le_z z (pos y) ≡ in_range k z
-  unfolding in_range
-  end_left y q e = rw (q, not_below (neg_ℤ (pos (k * 2147483648))) z, e)
 
 -- the range of no node is zero
 pub only_zero : (z : ℤ) → in_range 0 z ≡ true → z ≡ pos 0

@@ -1,4 +1,4 @@
-// The entries of pairs and values: within their limits where they are used, zero where they are not.
+// The entries of pairs: within their limits where they are used, zero where they are not.
 ghost use Rattle.std.specs.Prelude.{◌≡◌, ◌≤◌};
 ghost use Rattle.tree.specs.Ranges.{in_range};
 ghost use Rattle.session.specs.inner.Passes as pass;
@@ -30,14 +30,6 @@ pub fn pairs(count: u16, twice: u32, down: bool, sizes: &[u16; 256], pairs: &Pai
     leased & counted & cached
 }
 
-// Whether the values of nodes that are not there are zero.
-pub fn values(count: u16, values: &[i32; 256]) -> bool
-    requires { count ≤ 256 }
-    ensures { result ≡ pass.values count values.now }
-{
-    none(&values[usize::from(count)..])
-}
-
 // Whether z is in the range of a sum over k nodes.
 fn in_range(k: u16, z: i64) -> bool
     ensures { result ≡ in_range k z }
@@ -50,5 +42,9 @@ fn in_range(k: u16, z: i64) -> bool
 fn near_size(count: u16, down: bool, size: u16) -> u16
     ensures { result ≡ pass.near_size count down size }
 {
-    if down { count.saturating_sub(size) } else { size }
+    if down {
+        count.saturating_sub(size)
+    } else {
+        size
+    }
 }

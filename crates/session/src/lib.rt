@@ -4,7 +4,7 @@
 // outcome.
 #![tactic(auto)]
 
-mod entry; // the entries of pairs and values
+mod entry; // the entries of pairs
 mod order; // the inequality between neighbouring pairs
 mod pass; // passes over all of a list
 
@@ -63,7 +63,7 @@ impl Session {
 
     // A fresh session of the tree of a table, in place of this one. Refusals: those of the table; this
     // session is then kept.
-    #[tactic(auto, using(crate::proofs::Starts::loads, crate::proofs::Starts::loads_not))]
+    #[tactic(auto, using(crate::proofs::Starts::loads_as, crate::proofs::Starts::loads_not))]
     pub fn load(&self, bytes: &[u8]) -> Result<Session, Refusal>
         ensures { told_started self.now result ≡ loaded_of self.now bytes.now }
     {
@@ -87,7 +87,7 @@ impl Session {
         let twice = 2 * self.accepted;
         entry::pairs(count, twice, false, &sizes, &self.up)
             & entry::pairs(count, twice, true, &sizes, &self.down)
-            & entry::values(count, &self.values)
+            & pass::none(&self.values[usize::from(count)..])
             & order::ordered(&self.tree, &self.up.lease, &self.down.lease)
     }
 

@@ -105,6 +105,7 @@ pub fn every<F: Fn(usize) -> bool>(first: usize, end: usize, test: F) -> bool
 }
 
 // Whether all of a list are zero: what is joined by `|` is zero where all of it is.
+#[tactic(auto, using(crate::proofs::AllZero::joined_more))]
 pub fn none<T: Entry>(list: &[T]) -> bool
     ensures { result ≡ list_all T.is_zero list.now }
 {

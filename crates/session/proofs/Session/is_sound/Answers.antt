@@ -1,12 +1,15 @@
 -- `is_sound` meets its contract: the root's size tells whether the tree is in rule, and past that and the limit the passes are made together.
-use mathlib.Core.Path.{◌≡◌, sym, ◌∙◌}
+use mathlib.Core.Path.{refl, sym, ◌∙◌}
 use Prim.Native.Nat.{◌≤◌}
 use native.Mathlib.Omega.{arith}
 use borrow.Author.Rules.{rules}
 use borrow.Author.Tests.{le-leb, lt-leb}
+use lib.IntN.{pos}
 use Rattle.tree.proofs.Sizes.{root_none}
 use Rattle.session.specs.Soundness.{limit, sound}
-use Rattle.session.proofs.InPasses.{rooted, together, sound_passes}
+use Rattle.session.specs.inner.Passes.{values}
+use Rattle.session.proofs.AllZero.{rest_zero}
+use Rattle.session.proofs.InPasses.{rooted, node_count, together, sound_passes}
 use Rattle.session.proofs.Session.is_sound.Goals as goal
 
 pub returns-then-sizes-eq0 : goal.returns-then-sizes-eq0
@@ -18,12 +21,13 @@ unfolding sound
 returns-then-self-gt-LIMIT c = rw (rooted _ _ _ c.sizes-sizes.ensures (omega arith), lt-leb c.args.self.now.accepted limit c.if-self-gt-LIMIT.true)
 
 pub returns : goal.returns
+unfolding values
 returns c =
     let s = c.args.self.now in
     let few : s.accepted ≤ 1048576 = omega arith in
     together s (rooted _ _ _ c.sizes-sizes.ensures (omega arith)) (le-leb s.accepted limit few)
     (rw c.sizes-sizes.ensures at c.pairs.ensures)
     (rw c.sizes-sizes.ensures at c.pairs-2.ensures)
-    c.values.ensures
+    (c.none.ensures ∙ rest_zero _ (pos 0) s.values _ 256 (search rules) (λ i. refl) _ _ c.from.ensures (node_count _ _ _ c.sizes-sizes.ensures (omega arith)).1)
     c.ordered.ensures.is
     ∙ sym (sound_passes s c.ordered.ensures.long (search rules) (search rules))
