@@ -20,8 +20,8 @@ pub fn nodes(bytes: &[u8], count: usize) -> Result<Tree, Refusal>
     let mut place = 9;
     for child in 1..count {
         let width = width::of_parent(child);
-        let parent = fields::get(bytes, place, width)?;
-        if child as u64 <= parent {
+        let parent = fields::get(bytes, place, width)? as usize;
+        if child <= parent {
             return Err(Refusal::Parent);
         }
         tree.parents[child] = parent as u8;
