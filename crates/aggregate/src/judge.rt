@@ -8,13 +8,13 @@ use session::Session;
 
 // The refusal of a request before its walk, 0 for none: 9 is known after the walk.
 #[tactic(auto, unfolding(crate::specs::inner::Acts::early_refusal))]
-pub fn early_refusal(count: u16, accepted: u32, x: usize) -> u8
-    ensures { result ≡ early_refusal count accepted x }
+pub fn early_refusal(session: &Session, x: usize) -> u8
+    ensures { result ≡ early_refusal session.now.tree.count session.now.accepted x }
 {
-    if count as usize <= x {
+    if usize::from(session.tree.count) <= x {
         return 7;
     }
-    if Session::LIMIT <= accepted {
+    if Session::LIMIT <= session.accepted {
         return 8;
     }
     0

@@ -11,7 +11,6 @@ mod ask; // the walk of a combine
 mod judge; // what a refused request answers
 mod later; // what comes after each neighbour
 mod links; // each node's neighbours, one after the other
-mod parts; // a session made of its parts
 mod raise; // a combine raises every pair that points to its node
 mod reads; // what the walks read of a session
 mod serve; // one request, served in place

@@ -1,14 +1,15 @@
 // The requests of a list, each in its turn.
 ghost use Rattle.std.specs.Prelude.{◌≡◌, length};
 ghost use Rattle.requests.specs.Lists.{one_if_combine};
-ghost use Rattle.session.specs.Parts.{session_by};
 ghost use Rattle.aggregate.specs.Running as spec;
 ghost use Rattle.aggregate.specs.inner.Acts.{Servable};
 ghost use Rattle.aggregate.specs.inner.Turns.{Starting, HasPlace, Addable, ended_by};
 
-use crate::{Outcome, Ran, Totals, act, links, parts, serve};
+use crate::links::Links;
+use crate::{Outcome, Ran, Totals, act, serve};
 use requests::{Item, Request};
 use session::Session;
+use trace::Trace;
 
 // How far a list came: the number of the refusal that ended it, 0 for none, and the totals so far.
 #[repr(C)]
@@ -19,7 +20,7 @@ pub struct Course {
 }
 
 // The requests of an accepted list to a sound session, from the first place on, up to the first that
-// is refused. The session is taken apart once and put together once, and its tree linked once.
+// is refused. The session's tree is linked once.
 pub fn whole(
     session: Session,
     list: &[u8],
@@ -34,70 +35,17 @@ pub fn whole(
         × (answers.new ≡ spec.answers_of session list.now answers.old log.old place)
         × (log.new ≡ spec.run_log_of session list.now answers.old log.old place) }
 {
-    let tree = session.tree;
-    let nodes = tree.count;
-    let parents = tree.parents;
-    let links = links::of(nodes, &parents);
-    let mut values = session.values;
-    let up = session.up;
-    let mut up_lease = up.lease;
-    let mut up_cache = up.cache;
-    let mut up_messages = up.messages;
-    let down = session.down;
-    let mut down_lease = down.lease;
-    let mut down_cache = down.cache;
-    let mut down_messages = down.messages;
-    let mut accepted = session.accepted;
-    let course = each(
-        nodes,
-        &parents,
-        &links.first,
-        &links.next,
-        &mut values,
-        &mut up_lease,
-        &mut up_cache,
-        &mut up_messages,
-        &mut down_lease,
-        &mut down_cache,
-        &mut down_messages,
-        &mut accepted,
-        list,
-        count,
-        from,
-        answers,
-        log,
-        place,
-    );
-    let after = parts::joined(
-        nodes,
-        &parents,
-        &values,
-        &up_lease,
-        &up_cache,
-        &up_messages,
-        &down_lease,
-        &down_cache,
-        &down_messages,
-        accepted,
-    );
-    ended(course.refusal, course.totals, after)
+    let mut session = session;
+    let links = Links::of(&session.tree);
+    let course = each(&mut session, &links, list, count, from, answers, log, place);
+    ended(course.refusal, course.totals, session)
 }
 
-// The requests of an accepted list in the parts of a sound session, whose tree has these links. What a
-// request needs besides serves one after the other.
-fn each<'a>(
-    nodes: u16,
-    parents: &'a [u8; 256],
-    first: &'a [u16; 256],
-    next: &'a [u16; 256],
-    values: &mut [i32; 256],
-    up_lease: &mut [u8; 256],
-    up_cache: &mut [i64; 256],
-    up_messages: &mut [u32; 256],
-    down_lease: &mut [u8; 256],
-    down_cache: &mut [i64; 256],
-    down_messages: &mut [u32; 256],
-    accepted: &mut u32,
+// The requests of an accepted list to a sound session, whose tree has these links. One trace serves
+// them all, one after the other.
+fn each(
+    session: &mut Session,
+    links: &Links,
     list: &[u8],
     count: usize,
     from: usize,
@@ -105,14 +53,10 @@ fn each<'a>(
     log: &mut [u8],
     place: usize,
 ) -> Course
-    requires { Servable (session_by nodes parents.now values.old up_lease.old up_cache.old up_messages.old down_lease.old down_cache.old down_messages.old accepted.old) first.now next.now
-        × Starting (session_by nodes parents.now values.old up_lease.old up_cache.old up_messages.old down_lease.old down_cache.old down_messages.old accepted.old) list.now (length answers.old) count from }
-    ensures { ended_by result.refusal result.totals (session_by nodes parents.now values.new up_lease.new up_cache.new up_messages.new down_lease.new down_cache.new down_messages.new accepted.new) answers.new log.new
-        ≡ spec.end_of (session_by nodes parents.now values.old up_lease.old up_cache.old up_messages.old down_lease.old down_cache.old down_messages.old accepted.old) list.now answers.old log.old place }
+    requires { Servable session.old links.now.first links.now.next × Starting session.old list.now (length answers.old) count from }
+    ensures { ended_by result.refusal result.totals session.new answers.new log.new ≡ spec.end_of session.old list.now answers.old log.old place }
 {
-    let mut later_up = [0i64; 256];
-    let mut later_down = [0i64; 256];
-    let mut trace = [0u64; 510];
+    let mut trace = Trace::new();
     let mut at = from;
     let mut totals = Totals {
         requests: 0,
@@ -126,20 +70,8 @@ fn each<'a>(
             return Course { refusal: 0, totals };
         };
         let outcome = serve::request(
-            nodes,
-            parents,
-            first,
-            next,
-            values,
-            up_lease,
-            up_cache,
-            up_messages,
-            down_lease,
-            down_cache,
-            down_messages,
-            accepted,
-            &mut later_up,
-            &mut later_down,
+            session,
+            links,
             &mut trace,
             act::node_of(request),
             act::act_of(request),

@@ -12,15 +12,15 @@ use Rattle.aggregate.proofs.apply.hit.Goals as goal
 pub returns-in-Probe : goal.returns-in-Probe
 unfolding hit
 returns-in-Probe c =
-    let s = c.args in
-    rw (c.in-Probe.is, set-get_or s.lease.now s.i 0, set-get_or s.cache.now s.i (pos 0))
+    let p = c.args.pairs.now in
+    rw (c.in-Probe.is, set-get_or p.lease c.args.i 0, set-get_or p.cache c.args.i (pos 0))
 
 pub returns-in-Response : goal.returns-in-Response
 unfolding hit
 returns-in-Response c =
-    let s = c.args in
+    let p = c.args.pairs.now in
     let m = c.in-Response in
-    rw (m.is, set-get_or s.lease.now s.i 0, to_z-of_z {w = w64} {z = m.z} (search rules))
+    rw (m.is, set-get_or p.lease c.args.i 0, to_z-of_z {w = w64} {z = m.z} (search rules))
 
 pub returns-in-Update : goal.returns-in-Update
 unfolding hit
@@ -31,5 +31,5 @@ returns-in-Update c =
 pub returns-in-Release : goal.returns-in-Release
 unfolding hit
 returns-in-Release c =
-    let s = c.args in
-    rw (c.in-Release.is, set-get_or s.lease.now s.i 0, set-get_or s.cache.now s.i (pos 0))
+    let p = c.args.pairs.now in
+    rw (c.in-Release.is, set-get_or p.lease c.args.i 0, set-get_or p.cache c.args.i (pos 0))

@@ -1,9 +1,0 @@
--- `serve::whole` meets its contract: the session is served in its parts, and made of them again.
-use Rattle.session.proofs.Typing.{typed}
-use Rattle.aggregate.proofs.serve.whole.Goals as goal
-
-pub tested-outcome-requires : goal.tested-outcome-requires
-tested-outcome-requires c = typed c.args.session _ c.well_formed.0
-
-pub returns : goal.returns
-returns c = rw c.joined.ensures c.tested-outcome.ensures
