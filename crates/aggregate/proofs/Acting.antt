@@ -8,13 +8,13 @@ use lib.ListN.{get_or, set}
 use lib.Seq.{set-get_or, set-set}
 use Rattle.tree.specs.Operation.{sum}
 use Rattle.messages.specs.declared.Message.{Message}
-use Rattle.session.specs.Holding.{Typed}
+use Rattle.session.specs.Holding.{value_of, Typed}
 use Rattle.session.specs.Soundness.{Sound}
 use Rattle.session.specs.declared.Session.{Session}
 use Rattle.mechanism.specs.Views.{view}
 use Rattle.mechanism.specs.Applying.{applied}
 use Rattle.requests.specs.Lists.{node_of, Small}
-use Rattle.mechanism.specs.Requests.{combines, writes, links_of, after_combine, after_write, says, after}
+use Rattle.mechanism.specs.Requests.{combines, writes, valued, links_of, after_combine, after_write, says, after}
 use Rattle.mechanism.proofs.After.{wide}
 use Rattle.mechanism.proofs.Cells.{wide_applied}
 use Rattle.mechanism.proofs.Valued.{valued_sound, valued_typed}
@@ -56,9 +56,12 @@ module _ (s : Session) (x : ℕ) where
   says_walked (Write z) = refl
 
 -- a value that was set is taken back
-pub restored : (a : Act) (x : ℕ) (vs : List ℤ) → set (begun a x vs) x (get_or vs x (pos 0)) ≡ vs
+restored : (a : Act) (x : ℕ) (vs : List ℤ) → set (begun a x vs) x (get_or vs x (pos 0)) ≡ vs
 restored Combine x vs = set-get_or vs x (pos 0)
 restored (Write z) x vs = set-set vs x z (get_or vs x (pos 0)) ∙ set-get_or vs x (pos 0)
+
+pub restored_of : (s : Session) (x : ℕ) (a : Act) {t : Session} {z : ℤ} → t ≡ begun_of s x a → z ≡ value_of s x → valued t x z ≡ s
+restored_of s x a e f = rw (e, f, restored a x s.values)
 
 -- a refused act answers as its request does
 pub refused_in_place : (s t : Session) (n : ℕ) (o : Outcome) {v : Served} → o ≡ refused_outcome n → t ≡ s → refused n s ≡ v → served_as o t ≡ v
@@ -68,7 +71,7 @@ refused_in_place s t n o e f h = rw (e, f) h
 
 module _ (s : Session) (x : ℕ) (a : Act) (ms : List Message) where
   -- the session that was begun, with the messages applied
-  abbrev hit_of : Session
+  abbrev pub hit_of : Session
   hit_of = paired (begun_of s x a) (applied ms (links_of (begun_of s x a)))
 
   -- as many numbers as before

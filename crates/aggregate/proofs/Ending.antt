@@ -23,7 +23,6 @@ use Rattle.mechanism.proofs.Fits.{messages_fit, never_misfit, sum_ranging}
 use Rattle.trace.specs.inner.Traces.{messages_of, trace, pushed_all, logged_of, log_after_all}
 use Rattle.std.specs.Prelude.{Result, Ok, Err}
 use Rattle.refusal.specs.declared.Refusal.{Refusal}
-use Rattle.refusal.specs.declared.Refusal.TheVariants.{NoRoom}
 use Rattle.trace.proofs.Traced.{trace_holds}
 use Rattle.aggregate.specs.inner.Acts.{early_refusal}
 use Rattle.aggregate.specs.Serving.{refused, refusal, served_of, log_of}
@@ -47,9 +46,9 @@ module _ (s : Session) (r : Request) (log : List ℕ) (place : ℕ) where
   module _ (ready : Ready s (node_of r)) (fit : all_fit (says sum s r).log ≡ true) (answer : Result ℕ Refusal) (told : answer ≡ logged_of (length log) place (says sum s r).log)
       (log' : List ℕ) (logs : log' ≡ log_after_all log place (says sum s r).log) where
     -- refused for lack of room
-    pub ends_full : answer ≡ Err NoRoom → (refused 9 s ≡ served_of s r (length log) place) × (log' ≡ log_of s r log place)
+    pub ends_full : {x : Refusal} → answer ≡ Err x → (refused 9 s ≡ served_of s r (length log) place) × (log' ≡ log_of s r log place)
     unfolding served_of log_of logged_of log_after_all
-    ends_full full = go (room_for_all (length log) place (says sum s r).log) refl
+    ends_full {x} full = go (room_for_all (length log) place (says sum s r).log) refl
       where
         go : (b : Bool) → room_for_all (length log) place (says sum s r).log ≡ b → (refused 9 s ≡ served_of s r (length log) place) × (log' ≡ log_of s r log place)
         go true e = let d = rw e at told in let y : ◌≡◌ {A = ℕ} 1 0 = cc in absurd (suc-ne-zero 0 y)
