@@ -23,8 +23,7 @@ use Rattle.walk.proofs.Starting.{sound_steady}
 use Rattle.aggregate.specs.Serving.{refused_outcome, refused}
 use Rattle.aggregate.specs.inner.Afters.{paired, Climbing}
 use Rattle.aggregate.specs.inner.Acts.{request_of, served_as, Servable, begun, begun_of, walked, Walkable, settled_of, counted}
-use Rattle.aggregate.specs.declared.Outcome.{Outcome}
-use Rattle.aggregate.specs.declared.Served.{Served}
+use Rattle.aggregate.specs.Told.{Outcome, Served}
 use Rattle.aggregate.specs.declared.act.Act.{Act}
 use Rattle.aggregate.specs.declared.act.Act.TheVariants.{Combine, Write}
 

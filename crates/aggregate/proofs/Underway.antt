@@ -22,7 +22,7 @@ use Rattle.session.specs.declared.Session.{Session}
 use Rattle.aggregate.specs.Serving.{log_of}
 use Rattle.aggregate.specs.Running.{Running, running, start, in_turn, stored, added, done, runs, list_refusal, end_of}
 use Rattle.aggregate.specs.inner.Turns.{Starting, HasPlace, Addable}
-use Rattle.aggregate.specs.declared.Served.{Served}
+use Rattle.aggregate.specs.Told.{Served}
 use Rattle.aggregate.specs.declared.Totals.{Totals}
 use Rattle.aggregate.proofs.Verdicts.{refuses, logs_nothing}
 use Rattle.aggregate.proofs.Logging.{request_length_kept, at_most_510}

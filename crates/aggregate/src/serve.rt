@@ -1,38 +1,34 @@
 // One request, served in place.
 ghost use Rattle.std.specs.Prelude.{◌≡◌, length};
 ghost use Rattle.aggregate.specs.Serving.{served_of, log_of};
+ghost use Rattle.aggregate.specs.Told.{told_outcome, told_served};
 ghost use Rattle.aggregate.specs.inner.Acts.{request_of, served_as, Servable};
 
 use crate::act::Act;
 use crate::links::Links;
 use crate::{Outcome, Served, act, apply, judge};
+use refusal::Refusal;
 use session::Session;
 use trace::Trace;
 
-// A request to any session: 6 where it is unsound.
-pub fn whole(session: Session, x: usize, act: Act, log: &mut [u8], place: usize) -> Served
-    ensures { (result ≡ served_of session (request_of x act) (length log.old) place) × (log.new ≡ log_of session (request_of x act) log.old place) }
+// A request to any session. Refusals: 6 the session is unsound, and those of a request to a sound one.
+pub fn whole(
+    session: Session,
+    x: usize,
+    act: Act,
+    log: &mut [u8],
+    place: usize,
+) -> Result<Served, Refusal>
+    ensures { (told_served session result ≡ served_of session (request_of x act) (length log.old) place) × (log.new ≡ log_of session (request_of x act) log.old place) }
 {
-    let sound = session.is_sound();
-    if !sound {
-        return Served {
-            outcome: judge::refused(6),
-            session,
-        };
+    if !session.is_sound() {
+        return Err(Refusal::Unsound);
     }
     let mut session = session;
     let links = Links::of(&session.tree);
     let mut trace = Trace::new();
-    let outcome = request(
-        &mut session,
-        &links,
-        &mut trace,
-        x,
-        act,
-        log,
-        place,
-    );
-    Served { outcome, session }
+    let outcome = request(&mut session, &links, &mut trace, x, act, log, place)?;
+    Ok(Served { outcome, session })
 }
 
 // A request to a sound session, whose tree has these links. Room for its messages is lent too.
@@ -44,28 +40,24 @@ pub fn request(
     act: Act,
     log: &mut [u8],
     place: usize,
-) -> Outcome
+) -> Result<Outcome, Refusal>
     requires { Servable session.old links.now.first links.now.next }
-    ensures { (served_as result session.new ≡ served_of session.old (request_of x act) (length log.old) place) × (log.new ≡ log_of session.old (request_of x act) log.old place) }
+    ensures { (served_as (told_outcome result) session.new ≡ served_of session.old (request_of x act) (length log.old) place) × (log.new ≡ log_of session.old (request_of x act) log.old place) }
 {
-    let refusal = judge::early_refusal(session, x);
-    if refusal != 0 {
-        return judge::refused(refusal);
-    }
+    judge::early(session, x)?;
     let held = session.values[x];
     act::begin(act, session, x);
     let answer = act::walk(act, session, links, trace, x);
     let Ok(next) = trace.log(log, place) else {
         session.values[x] = held;
-        return judge::refused(9);
+        return Err(Refusal::NoRoom);
     };
     apply::apply(session, trace);
     act::settle(act, session, x);
     session.accepted += 1;
-    Outcome {
-        refusal: 0,
+    Ok(Outcome {
         answer,
         messages: trace.len as u32,
         next,
-    }
+    })
 }

@@ -17,8 +17,7 @@ use Rattle.walk.specs.inner.Asking.{SumsFit}
 use Rattle.walk.specs.inner.Links.{Linked}
 use Rattle.walk.specs.inner.Telling.{Steady}
 use Rattle.aggregate.specs.inner.Afters.{paired}
-use Rattle.aggregate.specs.declared.Outcome.{Outcome}
-use Rattle.aggregate.specs.declared.Served.{Served}
+use Rattle.aggregate.specs.Told.{Outcome, Served}
 use Rattle.aggregate.specs.declared.act.Act.{Act}
 use Rattle.aggregate.specs.declared.act.Act.TheVariants.{Combine, Write}
 
