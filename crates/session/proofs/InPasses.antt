@@ -1,7 +1,7 @@
 -- The passes over the places say what the test of a session says.
 use mathlib.Core.Path.{◌≡◌, refl, sym, ap₂, ◌∙◌}
 use mathlib.Core.Bool.{Bool, true, false, ◌&&◌, and-eq-true_iff}
-use mathlib.Core.Logic.{inl, inr}
+use mathlib.Core.Logic.{◌≢◌, inl, inr}
 use mathlib.Core.List.{List}
 use Prim.Native.Nat.{ℕ, ◌*◌, ◌-◌, ◌≤◌, ◌<◌}
 use native.Mathlib.Omega.{arith}
@@ -17,7 +17,7 @@ use Rattle.tree.proofs.Cases.{lt_or_le}
 use Rattle.tree.proofs.Every.{same_test}
 use Rattle.tree.proofs.InRule.{in_rule_exactly}
 use Rattle.tree.proofs.Listed.{sizes_read}
-use Rattle.tree.proofs.Sizes.{sizes_add, size_below_lem}
+use Rattle.tree.proofs.Sizes.{sizes_add, size_below_lem, root_some}
 use Rattle.session.specs.Holding.{lease_of, cache_of, sent_of}
 use Rattle.session.specs.inner.Passes.{pairs, values, ordered}
 use Rattle.session.specs.Soundness.{limit, Sound, in_limits, sound}
@@ -27,6 +27,14 @@ use Rattle.session.proofs.AllEntries.{entry_used, entry_unused, entries_of, valu
 use Rattle.session.proofs.Limits.{limits_parts, limits_of}
 use Rattle.session.proofs.Ordering.{pass_says, pass_holds, by_kind, of_kinds}
 use Rattle.session.proofs.Soundly.{limits, sound_exactly}
+
+-- a tree in whose sizes the root has itself below it
+module _ (ps : List ℕ) (n : ℕ) (size : List ℕ) (e : size ≡ sizes ps n) (some : get_or size 0 0 ≢ 0) where
+  pub rooted : in_rule ps n ≡ true
+  rooted = root_some ps n (λ z. some (rw e z))
+
+  pub node_count : (1 ≤ n) × (n ≤ 256)
+  node_count = let r = (in_rule_exactly ps n).0 rooted in (r.some, r.few)
 
 -- every parent is a place, also of a node that is not there
 parent_place_lem : (ps : List ℕ) (n : ℕ) → InRule ps n → length ps ≡ 256 → (j : ℕ) → parent ps j < 256

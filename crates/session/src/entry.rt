@@ -50,8 +50,5 @@ fn in_range(k: u16, z: i64) -> bool
 fn near_size(count: u16, down: bool, size: u16) -> u16
     ensures { result ≡ pass.near_size count down size }
 {
-    if down {
-        return count.saturating_sub(size);
-    }
-    size
+    if down { count.saturating_sub(size) } else { size }
 }

@@ -73,6 +73,7 @@ impl Session {
     }
 
     // Whether the session is sound.
+    #[tactic(auto, using(crate::proofs::InPasses::node_count))]
     pub fn is_sound(&self) -> bool
         ensures { result ≡ sound 2 self.now }
     {

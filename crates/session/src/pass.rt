@@ -99,7 +99,7 @@ pub fn every<F: Fn(usize) -> bool>(first: usize, end: usize, test: F) -> bool
 {
     let mut good = true;
     for i in first..end {
-        good = good & test(i);
+        good &= test(i);
     }
     good
 }
