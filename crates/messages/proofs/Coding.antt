@@ -14,7 +14,7 @@ use Rattle.twos.proofs.Signs.{signed_twos}
 use Rattle.messages.specs.Records.{kind_of, width_of, head_of, record_of, coded}
 use Rattle.fields.specs.Fields.{field}
 use Rattle.fields.proofs.ReadBack.{field_lt}
-use Rattle.messages.proofs.Stands.{head, with_value}
+use Rattle.messages.proofs.Stands.{head, with_value, from_lt, to_lt, value_lies}
 use Rattle.messages.specs.Reading.{message_of, message_at, decoded}
 use Rattle.messages.specs.declared.Message.TheVariants.{Probe, Response, Update, Release}
 use Rattle.messages.specs.Promises.{CodedBack}
@@ -51,33 +51,24 @@ coded_back (Release a b) (ha, hb, h) = let p = parts (head_of 3 a b * 2 ^ 40) 3 
 
 -- the message of the record that stands at a place, with zero bits behind it
 module _ (s : List ℕ) (place : ℕ) where
-  from_lt : field s (place + 2) 8 < 256
-  from_lt = field_lt s (place + 2) 8
-
-  to_lt : field s (place + 10) 8 < 256
-  to_lt = field_lt s (place + 10) 8
-
-  value_lies : field s (place + 18) 40 < 2 ^ 40
-  value_lies = field_lt s (place + 18) 40
-
   pub decoded_there : (kind : ℕ) → kind ≡ field s place 2 → decoded (field s place (width_of kind) * 2 ^ (58 - width_of kind)) ≡ message_at s place kind
   unfolding decoded width_of message_at message_of
   decoded_there zero e =
       let h = head s place in
-      let p = parts (field s place 18 * 2 ^ 40) 0 (field s (place + 2) 8) (field s (place + 10) 8) 0 (omega arith) from_lt to_lt (omega arith) in
+      let p = parts (field s place 18 * 2 ^ 40) 0 (field s (place + 2) 8) (field s (place + 10) 8) 0 (omega arith) (from_lt s place) (to_lt s place) (omega arith) in
       rw (p.kinds, p.senders, p.receivers)
   decoded_there (suc zero) e =
       let h = head s place in
       let v = with_value s place in
-      let p = parts (field s place 58 * 1) 1 (field s (place + 2) 8) (field s (place + 10) 8) (field s (place + 18) 40) (omega arith) from_lt to_lt value_lies in
+      let p = parts (field s place 58 * 1) 1 (field s (place + 2) 8) (field s (place + 10) 8) (field s (place + 18) 40) (omega arith) (from_lt s place) (to_lt s place) (value_lies s place) in
       rw (p.kinds, p.senders, p.receivers, p.values)
   decoded_there (suc (suc zero)) e =
       let h = head s place in
       let v = with_value s place in
-      let p = parts (field s place 58 * 1) 2 (field s (place + 2) 8) (field s (place + 10) 8) (field s (place + 18) 40) (omega arith) from_lt to_lt value_lies in
+      let p = parts (field s place 58 * 1) 2 (field s (place + 2) 8) (field s (place + 10) 8) (field s (place + 18) 40) (omega arith) (from_lt s place) (to_lt s place) (value_lies s place) in
       rw (p.kinds, p.senders, p.receivers, p.values)
   decoded_there (suc (suc (suc zero))) e =
       let h = head s place in
-      let p = parts (field s place 18 * 2 ^ 40) 3 (field s (place + 2) 8) (field s (place + 10) 8) 0 (omega arith) from_lt to_lt (omega arith) in
+      let p = parts (field s place 18 * 2 ^ 40) 3 (field s (place + 2) 8) (field s (place + 10) 8) 0 (omega arith) (from_lt s place) (to_lt s place) (omega arith) in
       rw (p.kinds, p.senders, p.receivers)
   decoded_there (suc (suc (suc (suc k)))) e = absurd (omega (arith, field_lt s place 2))

@@ -29,13 +29,13 @@ module _ (s : List ℕ) (place : ℕ) where
   pub with_value : field s place 58 ≡ field s place 18 * 2 ^ 40 + field s (place + 18) 40
   with_value = read_two s place 18 40
 
-  from_lt : field s (place + 2) 8 < 256
+  pub from_lt : field s (place + 2) 8 < 256
   from_lt = field_lt s (place + 2) 8
 
-  to_lt : field s (place + 10) 8 < 256
+  pub to_lt : field s (place + 10) 8 < 256
   to_lt = field_lt s (place + 10) 8
 
-  value_lies : field s (place + 18) 40 < 2 ^ 40
+  pub value_lies : field s (place + 18) 40 < 2 ^ 40
   value_lies = field_lt s (place + 18) 40
 
   -- ---- from the place to the message: what is read stands there
