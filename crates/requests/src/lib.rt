@@ -23,6 +23,7 @@ pub enum Request {
 
 // What an accepted list has: how many requests, how many of them are combines, and the place of the
 // first.
+#[repr(C)]
 #[derive(Clone, Copy, Debug, PartialEq, Eq)]
 pub struct Judged {
     pub requests: usize,
@@ -33,7 +34,7 @@ pub struct Judged {
 // A whole list, judged in one pass. Refusals: 1 the list ends before a field that is due, 5 the count
 // is above 4,096, 4 a filling bit is set or bytes are left over. The first fault decides, and 4 comes
 // last.
-#[tactic(auto, using(crate::proofs::Walk::count_cut, crate::proofs::Walk::count_many, crate::proofs::Walk::counted))]
+#[tactic(auto, using(crate::proofs::Walk::count_cut))]
 pub fn judge(list: &[u8]) -> Result<Judged, Refusal>
     ensures { told_judged result ≡ judged_of list.now }
 {
@@ -50,9 +51,9 @@ pub fn judge(list: &[u8]) -> Result<Judged, Refusal>
 pub fn request_at(list: &[u8], place: usize) -> Result<(Request, usize), Refusal>
     ensures { result ≡ item_at list.now place }
 {
-    let kind = fields::get(list, place, 1)?;
+    let is_combine = fields::get(list, place, 1)? == 0;
     let node = fields::get(list, place + 1, 8)? as u8;
-    if kind == 0 {
+    if is_combine {
         return Ok((Request::Combine(node), place + 9));
     }
     let number = fields::get(list, place + 9, 32)?;

@@ -8,7 +8,7 @@ use crate::{Judged, Request};
 use refusal::Refusal;
 
 // The requests of a list whose count is in rule, then its end.
-#[tactic(auto, using(crate::proofs::Walk::went_none, crate::proofs::Walk::went_few, crate::proofs::Walk::went_on, crate::proofs::Walk::went_short, crate::proofs::Walk::went_left_over, crate::proofs::Walk::went_whole))]
+#[tactic(auto, using(crate::proofs::Walk::went_few, crate::proofs::Walk::went_short, crate::proofs::Walk::went_left_over, crate::proofs::Walk::went_whole))]
 pub fn requests(list: &[u8], count: usize) -> Result<Judged, Refusal>
     requires { Counted list.now count }
     ensures { told_judged result ≡ judged_of list.now }
