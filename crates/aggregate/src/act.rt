@@ -1,6 +1,6 @@
 // A request as an act at a node: what a combine and a write do in their turn.
 ghost use Rattle.std.specs.Prelude.{◌≡◌, ◌<◌, length};
-ghost use Rattle.requests.specs.Lists.{node_of, Small};
+ghost use Rattle.requests.specs.Lists.{Small};
 ghost use Rattle.mechanism.specs.Views.{view};
 ghost use Rattle.trace.specs.inner.Traces as traces;
 ghost use Rattle.aggregate.specs.inner.Afters.{Climbing};
@@ -19,21 +19,12 @@ pub enum Act {
 }
 
 // The node of a request, and what it does there.
-pub fn node_of(request: Request) -> usize
-    ensures { result ≡ node_of request }
+pub fn of(request: Request) -> (usize, Act)
+    ensures { spec.request_of result.0 result.1 ≡ request }
 {
     match request {
-        Request::Combine(x) => usize::from(x),
-        Request::Write(x, _) => usize::from(x),
-    }
-}
-
-pub fn act_of(request: Request) -> Act
-    ensures { spec.request_of (node_of request) result ≡ request }
-{
-    match request {
-        Request::Combine(_) => Act::Combine,
-        Request::Write(_, value) => Act::Write(value),
+        Request::Combine(x) => (usize::from(x), Act::Combine),
+        Request::Write(x, value) => (usize::from(x), Act::Write(value)),
     }
 }
 

@@ -19,8 +19,7 @@ pub fn apply(session: &mut Session, trace: &Trace)
     let used = trace.used();
     for number in used {
         let message = messages::decode(*number);
-        let u = from(message);
-        let v = to(message);
+        let (u, v) = ends(message);
         if v < u {
             hit(&mut session.up, u, message);
         } else {
@@ -36,35 +35,21 @@ fn hit(pairs: &mut Pairs, i: usize, message: Message)
 {
     pairs.messages[i] += 1;
     match message {
-        Message::Probe(_, _) => {}
+        Message::Probe(_, _) | Message::Release(_, _) => {}
         Message::Response(_, _, z) => pairs.cache[i] = z,
         Message::Update(_, _, z) => {
             pairs.cache[i] = z;
             pairs.lease[i] = Rule::after_writes(pairs.lease[i], 1);
         }
-        Message::Release(_, _) => {}
     }
 }
 
 // The pair that owns a message: its near end, and its far end.
-fn from(message: Message) -> usize
-    ensures { (result ≡ spec.from_of message) × (result < 256) }
+fn ends(message: Message) -> (usize, usize)
+    ensures { ((result.0 ≡ spec.from_of message) × (result.0 < 256)) × ((result.1 ≡ spec.to_of message) × (result.1 < 256)) }
 {
     match message {
-        Message::Probe(_, b) => usize::from(b),
-        Message::Response(a, _, _) => usize::from(a),
-        Message::Update(a, _, _) => usize::from(a),
-        Message::Release(_, b) => usize::from(b),
-    }
-}
-
-fn to(message: Message) -> usize
-    ensures { (result ≡ spec.to_of message) × (result < 256) }
-{
-    match message {
-        Message::Probe(a, _) => usize::from(a),
-        Message::Response(_, b, _) => usize::from(b),
-        Message::Update(_, b, _) => usize::from(b),
-        Message::Release(a, _) => usize::from(a),
+        Message::Probe(a, b) | Message::Release(a, b) => (usize::from(b), usize::from(a)),
+        Message::Response(a, b, _) | Message::Update(a, b, _) => (usize::from(a), usize::from(b)),
     }
 }

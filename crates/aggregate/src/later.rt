@@ -4,6 +4,7 @@ ghost use Rattle.session.specs.Holding.{pair_at};
 ghost use Rattle.mechanism.specs.Views.{view};
 ghost use Rattle.walk.specs.inner.Laters.{Passing, Passed};
 
+use crate::reads;
 use session::Session;
 
 // What each node knows of its neighbours after a neighbour, at the place of the child: from child to
@@ -38,12 +39,11 @@ impl Later {
     }
 
     // What u knows of its neighbours after v.
-    #[tactic(auto, unfolding(session::specs::Holding::pair_at), using(messages::proofs::Parts::handed_on))]
     pub fn after(&self, u: usize, v: usize) -> i64
         requires { (u < 256) × (v < 256) }
         ensures { result ≡ pair_at (pos 0) self.now.up self.now.down u v }
     {
-        if v < u { self.up[u] } else { self.down[v] }
+        reads::entry(&self.up, &self.down, u, v)
     }
 }
 

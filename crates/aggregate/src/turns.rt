@@ -46,9 +46,9 @@ pub fn whole(
                 session,
             };
         };
-        let x = act::node_of(request);
-        let act = act::act_of(request);
-        match serve::request(&mut session, &links, &mut trace, x, act, log, totals.next) {
+        let (x, act) = act::of(request);
+        let served = serve::request(&mut session, &links, &mut trace, x, act, log, totals.next);
+        match served {
             Ok(outcome) => {
                 let stored = store(answers, totals.answers, request, outcome.answer);
                 totals = added(totals, stored, outcome);

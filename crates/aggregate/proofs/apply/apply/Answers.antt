@@ -12,10 +12,10 @@ pub loop-number-init : goal.loop-number-init
 loop-number-init c = done_none _ _ c.requires
 
 pub hit-requires : goal.hit-requires
-hit-requires c = (c.from-u.ensures.1, omega (arith, c.loop-number.invariant.few.up_few c.from-u.result, c.used-used.ensures.1))
+hit-requires c = (c.ends-u.ensures.0.1, omega (arith, c.loop-number.invariant.few.up_few c.ends-u.result.0, c.used-used.ensures.1))
 
 pub hit-requires-else-v-u : goal.hit-requires-else-v-u
-hit-requires-else-v-u c = (c.to-v.ensures.1, omega (arith, c.loop-number.invariant.few.down_few c.to-v.result, c.used-used.ensures.1))
+hit-requires-else-v-u c = (c.ends-u.ensures.1.1, omega (arith, c.loop-number.invariant.few.down_few c.ends-u.result.1, c.used-used.ensures.1))
 
 pub loop-number-preserved : goal.loop-number-preserved
 loop-number-preserved c =
@@ -23,8 +23,8 @@ loop-number-preserved c =
     let l = links_of t in
     let d = done_more c.loop-number.invariant c.decode-message.result c.decode-message.ensures in
     elim c.if-v-u.branch [
-      then-v-u w ↦ d _ (w.session-is ∙ ap (paired t) (step_up l _ _ _ _ c.from-u.ensures.0 c.to-v.ensures.0 w.if-v-u.true w.hit.ensures)) |
-      else-v-u w ↦ d _ (w.session-is ∙ ap (paired t) (step_down l _ _ _ _ c.from-u.ensures.0 c.to-v.ensures.0 w.if-v-u.false w.hit-else-v-u.ensures))
+      then-v-u w ↦ d _ (w.session-is ∙ ap (paired t) (step_up l _ _ _ _ c.ends-u.ensures.0.0 c.ends-u.ensures.1.0 w.if-v-u.true w.hit.ensures)) |
+      else-v-u w ↦ d _ (w.session-is ∙ ap (paired t) (step_down l _ _ _ _ c.ends-u.ensures.0.0 c.ends-u.ensures.1.0 w.if-v-u.false w.hit-else-v-u.ensures))
     ]
 
 pub returns : goal.returns
