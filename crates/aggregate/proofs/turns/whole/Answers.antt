@@ -63,7 +63,7 @@ store-stored-requires c = let a = (goal.at.store-stored-requires c).After-reques
 pub added-totals-requires : goal.added-totals-requires
 added-totals-requires c =
     let a = (goal.at.added-totals-requires c).After-request-served in
-    addable c.loop-index.invariant.1 (more a) (due a) (c.in-Ok-2.ensures.0 ∙ served a) c.store-stored.ensures.0
+    addable c.loop-index.invariant.1 (more a) (due a) (c.in-Ok-served.ensures.0 ∙ served a) c.store-stored.ensures.0
 
 pub returns-in-Err : goal.returns-in-Err
 returns-in-Err c =
@@ -76,9 +76,9 @@ pub loop-index-preserved : goal.loop-index-preserved
 loop-index-preserved c =
     let a = (goal.at.loop-index-preserved c).After-request-served in
     let is : c.added-totals.result.requests ≡ c.loop-index.totals.requests + 1 = ap (λ (t : Totals). t.requests) c.added-totals.ensures in
-    let answered = to_z-of_z {w = w64} {z = c.in-Ok-2.outcome.answer} (search rules) in (
+    let answered = to_z-of_z {w = w64} {z = c.in-Ok-served.outcome.answer} (search rules) in (
       omega (arith, c.loop-index.invariant.0),
-      underway_next c.loop-index.invariant.1 (more a) (found a) (c.in-Ok-2.ensures.0 ∙ served a) (logged a) refl c.store-stored.ensures.0 c.added-totals.ensures answered c.store-stored.ensures.1,
+      underway_next c.loop-index.invariant.1 (more a) (found a) (c.in-Ok-served.ensures.0 ∙ served a) (logged a) refl c.store-stored.ensures.0 c.added-totals.ensures answered c.store-stored.ensures.1,
     )
 
 pub returns : goal.returns
