@@ -1,6 +1,6 @@
 -- `turns::whole` meets its contract: what is still due comes to what the whole list comes to.
 use mathlib.Core.Path.{◌≡◌, refl, sym, ap, ◌∙◌}
-use Prim.Native.Nat.{ℕ, ◌+◌, ◌<◌, ◌≤◌}
+use Prim.Native.Nat.{◌+◌, ◌<◌, ◌≤◌}
 use native.Mathlib.Omega.{arith}
 use borrow.Author.Rules.{rules}
 use lib.ListN.{length}
@@ -11,7 +11,7 @@ use Rattle.requests.specs.Reading.{item_at}
 use Rattle.requests.specs.declared.Request.{Request}
 use Rattle.std.specs.Prelude.{Ok}
 use Rattle.session.proofs.Typing.{typed}
-use Rattle.aggregate.specs.Running.{Running, running}
+use Rattle.aggregate.specs.Running.{running}
 use Rattle.aggregate.specs.Serving.{served_of, log_of}
 use Rattle.aggregate.specs.inner.Acts.{request_of}
 use Rattle.aggregate.specs.declared.Totals.{Totals}
