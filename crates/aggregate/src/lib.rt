@@ -115,13 +115,5 @@ pub fn run(
     if !session.is_sound() {
         return Err(Refusal::Unsound);
     }
-    Ok(turns::whole(
-        session,
-        list,
-        judged.requests,
-        judged.first,
-        answers,
-        log,
-        place,
-    ))
+    Ok(turns::whole(session, list, judged, answers, log, place))
 }

@@ -25,7 +25,7 @@ starts s = runnable_by s.args.session s.args.list.now _ s.requires.accepted
 
 -- where a turn is
 module _ (a : After-request-served) where
-  more : a.loop-index.totals.requests < a.args.count
+  more : a.loop-index.totals.requests < a.args.judged.requests
   more = omega (arith, a.loop-index.invariant.0)
 
   abbrev due : Request
@@ -49,7 +49,7 @@ loop-index-init c = (refl, underway_first _ c.args.list.now c.args.answers.now c
 
 pub returns-in_default : goal.returns-in_default
 returns-in_default c =
-    let l : c.loop-index.totals.requests < c.args.count = omega (arith, c.loop-index.invariant.0) in
+    let l : c.loop-index.totals.requests < c.args.judged.requests = omega (arith, c.loop-index.invariant.0) in
     absurd (never_short c.loop-index.invariant.1 l _ (sym c.request_at.ensures ∙ c.in_default.is))
 
 pub request-served-requires : goal.request-served-requires
@@ -83,5 +83,5 @@ loop-index-preserved c =
 
 pub returns : goal.returns
 returns c =
-    let l : c.args.count ≤ c.loop-index.totals.requests = omega (arith, c.loop-index.invariant.0) in
+    let l : c.args.judged.requests ≤ c.loop-index.totals.requests = omega (arith, c.loop-index.invariant.0) in
     ends c.args.session c.args.list.now c.args.answers.now c.args.log.now c.args.place c.requires.accepted 0 _ (ends_all c.loop-index.invariant.1 l)
