@@ -7,22 +7,21 @@ ghost use Rattle.aggregate.specs.inner.Turns.{Starting, HasPlace, Addable};
 
 use crate::links::Links;
 use crate::{Outcome, Ran, Stop, Totals, act, serve};
-use requests::{Item, Request};
+use requests::{Judged, Request};
 use session::Session;
 use trace::Trace;
 
-// The requests of an accepted list to a sound session, from the first place on, up to the first that
-// is refused. The session's tree is linked once, and one trace serves all requests.
+// The requests of an accepted list to a sound session, up to the first that is refused. The session's
+// tree is linked once, and one trace serves all requests.
 pub fn whole(
     session: Session,
     list: &[u8],
-    count: usize,
-    from: usize,
+    judged: Judged,
     answers: &mut [i64],
     log: &mut [u8],
     place: usize,
 ) -> Ran
-    requires { Starting session list.now (length answers.old) count from }
+    requires { Starting session list.now (length answers.old) judged.requests judged.first }
     ensures { (told_stop result.stopped result.totals result.session ≡ spec.ran_of session list.now answers.old log.old place)
         × (answers.new ≡ spec.answers_of session list.now answers.old log.old place)
         × (log.new ≡ spec.run_log_of session list.now answers.old log.old place) }
@@ -30,16 +29,16 @@ pub fn whole(
     let mut session = session;
     let links = Links::of(&session.tree);
     let mut trace = Trace::new();
-    let mut at = from;
+    let mut at = judged.first;
     let mut totals = Totals {
         requests: 0,
         answers: 0,
         messages: 0,
         next: place,
     };
-    for index in 0..count {
+    for index in 0..judged.requests {
         // An accepted list has every request: none is short.
-        let Item::Found(request, after) = requests::request_at(list, at) else {
+        let Ok((request, after)) = requests::request_at(list, at) else {
             return Ran {
                 stopped: None,
                 totals,

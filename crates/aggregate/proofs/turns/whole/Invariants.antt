@@ -6,4 +6,4 @@ use Rattle.aggregate.proofs.turns.whole.Given as goal
 
 abbrev pub invariant-loop-index : goal.invariant-loop-index
 invariant-loop-index l =
-    (l.totals.requests ≡ l.index) × Underway l.initial.session l.list l.initial.answers l.initial.log l.place l.count l.at (running l.totals l.session l.answers l.log)
+    (l.totals.requests ≡ l.index) × Underway l.initial.session l.list l.initial.answers l.initial.log l.place l.index-end l.at (running l.totals l.session l.answers l.log)
