@@ -1,70 +1,47 @@
 // Lists: judged, and their requests handed out.
-use crate::show;
-use requests::{Item, Judged, Request};
-use std::io;
+use crate::show::{self, Bytes};
+use requests::{Item, Request};
+use std::{fmt, io};
 
 // A list is judged, and its requests are handed out from the first place on.
 pub fn read(rt: &impl Print, list: &[u8]) -> io::Result<()> {
-    show::text(rt, b"list")?;
-    show::bytes(rt, list)?;
-    show::text(rt, b":")?;
-    judged(rt, requests::judge(list), list)?;
-    show::end(rt)
-}
-
-fn judged(rt: &impl Print, judged: Judged, list: &[u8]) -> io::Result<()> {
-    show::byte(rt, judged.refusal)?;
+    let judged = requests::judge(list);
+    print!(rt; "list{}: {}", Bytes(list), judged.refusal)?;
     if judged.refusal == 0 {
-        show::size(rt, judged.requests)?;
-        show::text(rt, b" requests,")?;
-        show::size(rt, judged.combines)?;
-        show::text(rt, b" combines, sum")?;
-        show::number(rt, summed(list, judged.first, judged.requests))?;
+        let sum = summed(list, judged.first, judged.requests);
+        print!(rt;
+            " {} requests, {} combines, sum {sum}",
+            judged.requests, judged.combines
+        )?;
     }
-    Ok(())
+    println!(rt)
 }
 
 // Prints what stands at a place of a list.
 pub fn item(rt: &impl Print, place: u64, list: &[u8]) -> io::Result<()> {
-    show::text(rt, b"item")?;
-    show::number(rt, place)?;
-    show::text(rt, b" of")?;
-    show::bytes(rt, list)?;
-    show::text(rt, b":")?;
+    print!(rt; "item {place} of{}: ", Bytes(list))?;
     match requests::request_at(list, place as usize) {
-        Item::Found(r, next) => found(rt, r, next)?,
-        Item::Short => show::text(rt, b" short")?,
-    }
-    show::end(rt)
-}
-
-fn found(rt: &impl Print, r: Request, next: usize) -> io::Result<()> {
-    request(rt, r)?;
-    show::text(rt, b" to")?;
-    show::size(rt, next)
-}
-
-fn request(rt: &impl Print, r: Request) -> io::Result<()> {
-    match r {
-        Request::Combine(node) => combine(rt, node),
-        Request::Write(node, value) => write(rt, node, value),
+        Item::Found(request, next) => println!(rt; "{} to {next}", Words(request)),
+        Item::Short => println!(rt; "short"),
     }
 }
 
-fn combine(rt: &impl Print, node: u8) -> io::Result<()> {
-    show::text(rt, b" combine")?;
-    show::byte(rt, node)
-}
+// A request in words.
+#[derive(Clone, Copy)]
+struct Words(Request);
 
-fn write(rt: &impl Print, node: u8, value: i32) -> io::Result<()> {
-    show::text(rt, b" write")?;
-    show::byte(rt, node)?;
-    show::value32(rt, value)
+impl fmt::Display for Words {
+    fn fmt<W: fmt::Write>(&self, f: &mut fmt::Formatter<W>) -> fmt::Result {
+        match self.0 {
+            Request::Combine(node) => write!(f, "combine {node}"),
+            Request::Write(node, value) => write!(f, "write {node} {value}"),
+        }
+    }
 }
 
 // A sum over so many requests of a list.
-fn summed(list: &[u8], first: usize, requests: usize) -> u64 {
-    let mut sum: u64 = 0;
+fn summed(list: &[u8], first: usize, requests: usize) -> u32 {
+    let mut sum = 0;
     let mut place = first;
     for _ in 0..requests {
         let Item::Found(request, next) = requests::request_at(list, place) else {
@@ -76,16 +53,9 @@ fn summed(list: &[u8], first: usize, requests: usize) -> u64 {
     sum
 }
 
-fn number(request: Request) -> u64 {
+fn number(request: Request) -> u32 {
     match request {
-        Request::Combine(node) => show::wide(node),
-        Request::Write(node, value) => show::mixed(show::wide(node), bits(value)),
+        Request::Combine(node) => u32::from(node),
+        Request::Write(node, value) => show::mixed(u32::from(node), value.cast_unsigned()),
     }
-}
-
-fn bits(value: i32) -> u64 {
-    let twos::Encoded::Number(n) = twos::encode32(value, 32) else {
-        return 0;
-    };
-    n
 }
