@@ -1,6 +1,8 @@
 // Lists: judged, and their requests handed out.
+ghost use Rattle.std.specs.Iterator.{at_most};
+
 use crate::show::{self, Bytes};
-use requests::{Item, Request};
+use requests::{Item, Judged, Request};
 use std::{fmt, io};
 
 // A list is judged, and its requests are handed out from the first place on.
@@ -8,7 +10,7 @@ pub fn read(rt: &impl Print, list: &[u8]) -> io::Result<()> {
     let judged = requests::judge(list);
     print!(rt; "list{}: {}", Bytes(list), judged.refusal)?;
     if judged.refusal == 0 {
-        let sum = summed(list, judged.first, judged.requests);
+        let sum = Requests::of(list, judged).fold(0, |sum, r| show::mixed(sum, number(r)));
         print!(rt;
             " {} requests, {} combines, sum {sum}",
             judged.requests, judged.combines
@@ -26,6 +28,42 @@ pub fn item(rt: &impl Print, place: u64, list: &[u8]) -> io::Result<()> {
     }
 }
 
+// The requests of a list.
+#[derive(Clone, Copy)]
+pub struct Requests<'a> {
+    list: &'a [u8],
+    place: usize,
+    left: usize,
+}
+
+impl Requests<'_> {
+    // Those of a list that was judged so.
+    pub fn of(list: &[u8], judged: Judged) -> Requests<'_> {
+        Requests {
+            list,
+            place: judged.first,
+            left: judged.requests,
+        }
+    }
+}
+
+impl Iterator for Requests<'_> {
+    type Item = Request;
+
+    ghost remaining = { λ r. at_most r.left };
+
+    fn next(&mut self) -> Option<Request> {
+        self.left = self.left.checked_sub(1)?;
+        match requests::request_at(self.list, self.place) {
+            Item::Found(request, next) => {
+                self.place = next;
+                Some(request)
+            }
+            Item::Short => None,
+        }
+    }
+}
+
 // A request in words.
 #[derive(Clone, Copy)]
 struct Words(Request);
@@ -37,20 +75,6 @@ impl fmt::Display for Words {
             Request::Write(node, value) => write!(f, "write {node} {value}"),
         }
     }
-}
-
-// A sum over so many requests of a list.
-fn summed(list: &[u8], first: usize, requests: usize) -> u32 {
-    let mut sum = 0;
-    let mut place = first;
-    for _ in 0..requests {
-        let Item::Found(request, next) = requests::request_at(list, place) else {
-            return 0;
-        };
-        sum = show::mixed(sum, number(request));
-        place = next;
-    }
-    sum
 }
 
 fn number(request: Request) -> u32 {

@@ -1,8 +1,9 @@
 // Sessions: loaded from a table, and the requests of a list served one by one.
+use crate::lists::Requests;
 use crate::show::{self, Bytes};
 use crate::{change, runs};
 use aggregate::{Outcome, Served};
-use requests::{Item, Request};
+use requests::Request;
 use session::{Pairs, Session};
 use std::io;
 use tree::Tree;
@@ -66,18 +67,12 @@ fn run(
     room: usize,
     list: &[u8],
 ) -> io::Result<Session> {
-    let judged = requests::judge(list);
-    let mut at = judged.first;
-    for _ in 0..judged.requests {
-        let Item::Found(request, next) = requests::request_at(list, at) else {
-            return Ok(session);
-        };
+    for request in Requests::of(list, requests::judge(list)) {
         let served = one(rt, session, request, place, room)?;
         session = served.session;
         if served.outcome.refusal != 0 {
-            return Ok(session);
+            break;
         }
-        at = next;
     }
     Ok(session)
 }

@@ -1,8 +1,9 @@
 // Outside vectors: a table and a list as the program `rww` takes them, with the log of each request.
+use crate::lists::Requests;
 use crate::sessions;
 use crate::show::Digits;
 use aggregate::{Outcome, Served};
-use requests::{Item, Request};
+use requests::Request;
 use session::Session;
 use std::io;
 
@@ -28,19 +29,13 @@ fn loaded(rt: &impl Print, table: &[u8], logs: bool, list: &[u8]) -> io::Result<
 
 // The requests of an accepted list, up to the first that is refused.
 fn run(rt: &impl Print, mut session: Session, logs: bool, list: &[u8]) -> io::Result<()> {
-    let judged = requests::judge(list);
-    let mut at = judged.first;
     let mut sum = 0u32;
-    for index in 0..judged.requests {
-        let Item::Found(request, next) = requests::request_at(list, at) else {
-            return Ok(());
-        };
+    for (index, request) in Requests::of(list, requests::judge(list)).enumerate() {
         let served = one(rt, session, request, index, logs)?;
         if served.outcome.refusal != 0 {
             return Ok(());
         }
         session = served.session;
-        at = next;
         sum = sum.saturating_add(served.outcome.messages);
     }
     println!(rt; "total {sum}")
