@@ -1,66 +1,44 @@
 // Outside vectors: a table and a list as the program `rww` takes them, with the log of each request.
-use crate::{sessions, show};
+use crate::lists::Requests;
+use crate::sessions;
+use crate::show::Digits;
 use aggregate::{Outcome, Served};
-use requests::{Item, Request};
+use requests::Request;
 use session::Session;
 use std::io;
 
 // The first bytes are the table, the rest is the list. Logs are printed where they are asked for.
 pub fn serve(rt: &impl Print, table: u64, logs: u64, bytes: &[u8]) -> io::Result<()> {
-    let size = table as usize;
-    if size <= bytes.len() {
-        loaded(rt, &bytes[..size], logs == 1, &bytes[size..])?;
+    match bytes.split_at_checked(table as usize) {
+        Some((table, list)) => loaded(rt, table, logs == 1, list),
+        None => Ok(()),
     }
-    Ok(())
 }
 
 fn loaded(rt: &impl Print, table: &[u8], logs: bool, list: &[u8]) -> io::Result<()> {
     let started = sessions::other().load(table);
     if started.refusal != 0 {
-        return refused(rt, b"table", started.refusal);
+        return println!(rt; "table {}", started.refusal);
     }
     let refusal = requests::judge(list).refusal;
     if refusal != 0 {
-        return refused(rt, b"list", refusal);
+        return println!(rt; "list {refusal}");
     }
     run(rt, started.session, logs, list)
 }
 
-fn refused(rt: &impl Print, what: &[u8], refusal: u8) -> io::Result<()> {
-    show::text(rt, what)?;
-    show::byte(rt, refusal)?;
-    show::end(rt)
-}
-
 // The requests of an accepted list, up to the first that is refused.
-fn run(rt: &impl Print, session: Session, logs: bool, list: &[u8]) -> io::Result<()> {
-    let judged = requests::judge(list);
-    let mut session = session;
-    let mut at = judged.first;
-    let mut messages: u64 = 0;
-    for index in 0..judged.requests {
-        let Item::Found(request, next) = requests::request_at(list, at) else {
-            return Ok(());
-        };
+fn run(rt: &impl Print, mut session: Session, logs: bool, list: &[u8]) -> io::Result<()> {
+    let mut sum = 0u32;
+    for (index, request) in Requests::of(list, requests::judge(list)).enumerate() {
         let served = one(rt, session, request, index, logs)?;
         if served.outcome.refusal != 0 {
             return Ok(());
         }
         session = served.session;
-        at = next;
-        messages = plus(messages, served.outcome.messages);
+        sum = sum.saturating_add(served.outcome.messages);
     }
-    total(rt, messages)
-}
-
-fn plus(sum: u64, messages: u32) -> u64 {
-    sum % 4294967296 + messages as u64
-}
-
-fn total(rt: &impl Print, messages: u64) -> io::Result<()> {
-    show::text(rt, b"total")?;
-    show::number(rt, messages)?;
-    show::end(rt)
+    println!(rt; "total {sum}")
 }
 
 // One request, from bit 0 of zero bytes on, and what it answers and logs.
@@ -74,7 +52,7 @@ fn one(
     let mut log = [0u8; 2423];
     let served = sessions::asked(session, request, &mut log, 0);
     if served.outcome.refusal != 0 {
-        stopped(rt, index, served.outcome.refusal)?;
+        println!(rt; "request {index} {}", served.outcome.refusal)?;
         return Ok(served);
     }
     accepted(rt, request, served.outcome)?;
@@ -84,45 +62,18 @@ fn one(
     Ok(served)
 }
 
-fn stopped(rt: &impl Print, index: usize, refusal: u8) -> io::Result<()> {
-    show::text(rt, b"request")?;
-    show::size(rt, index)?;
-    show::byte(rt, refusal)?;
-    show::end(rt)
-}
-
 fn accepted(rt: &impl Print, request: Request, outcome: Outcome) -> io::Result<()> {
+    let messages = outcome.messages;
     match request {
-        Request::Combine(x) => {
-            show::text(rt, b"C")?;
-            show::byte(rt, x)?;
-            show::value(rt, outcome.answer)?;
-        }
-        Request::Write(x, value) => {
-            show::text(rt, b"W")?;
-            show::byte(rt, x)?;
-            show::value32(rt, value)?;
-        }
+        Request::Combine(x) => println!(rt; "C {x} {} {messages}", outcome.answer),
+        Request::Write(x, value) => println!(rt; "W {x} {value} {messages}"),
     }
-    show::number(rt, outcome.messages as u64)?;
-    show::end(rt)
 }
 
 // Prints the index of a request, the bits that it logged, and the bytes that hold them.
 fn logged(rt: &impl Print, index: usize, bits: usize, log: &[u8]) -> io::Result<()> {
-    show::text(rt, b"log")?;
-    show::size(rt, index)?;
-    show::size(rt, bits)?;
-    let size = bytes_for(bits);
-    if size <= log.len() {
-        show::digits(rt, &log[..size])?;
+    match log.get(..bits.div_ceil(8)) {
+        Some(bytes) => println!(rt; "log {index} {bits} {}", Digits(bytes)),
+        None => println!(rt; "log {index} {bits}"),
     }
-    show::end(rt)
-}
-
-fn bytes_for(bits: usize) -> usize {
-    if bits % 8 == 0 {
-        return bits / 8;
-    }
-    bits / 8 + 1
 }

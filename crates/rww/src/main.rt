@@ -8,7 +8,6 @@
 
 mod files; // reading a file
 mod serve; // the requests of a list
-mod show; // printing
 
 use session::{Session, Started};
 use std::io;
@@ -22,7 +21,7 @@ fn main(rt: HostRuntime) -> io::Result<()> {
     let size = files::read(&rt, "tree.tab", &mut room);
     let started = loaded(&room[..size]);
     if started.refusal != 0 {
-        return show::table_refused(&rt, started.refusal);
+        return println!(rt; "table {}", started.refusal);
     }
     requests(&rt, started.session)
 }
