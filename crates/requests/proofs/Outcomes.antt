@@ -6,12 +6,12 @@ use Rattle.refusal.specs.Outcomes.{OneResult}
 use Rattle.refusal.specs.declared.Refusal.{Refusal}
 use Rattle.refusal.proofs.Numbers.{numbers_apart, numbers_within}
 use Rattle.requests.specs.Told.{Judged, told_judged}
-use Rattle.requests.specs.declared.Judged.{Judged as List}
+use Rattle.requests.specs.declared.Judged as declared
 use Rattle.requests.proofs.judge.Reads as judge
 use Rattle.requests.proofs.request_at.Reads as request_at
 
 -- what is told leaves one answer
-told_apart : (x y : Result List Refusal) → told_judged x ≡ told_judged y → x ≡ y
+told_apart : (x y : Result declared.Judged Refusal) → told_judged x ≡ told_judged y → x ≡ y
 told_apart (Ok a) (Ok b) e = λ i. Ok (record { requests = (e i).requests; combines = (e i).combines; first = (e i).first })
 told_apart (Ok a) (Err r) e = absurd (omega (arith, ap (λ (j : Judged). j.refusal) e, numbers_within r))
 told_apart (Err q) (Ok b) e = absurd (omega (arith, ap (λ (j : Judged). j.refusal) e, numbers_within q))
