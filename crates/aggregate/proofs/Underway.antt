@@ -22,11 +22,11 @@ use Rattle.session.specs.declared.Session.{Session}
 use Rattle.aggregate.specs.Serving.{log_of}
 use Rattle.aggregate.specs.Running.{Running, running, start, in_turn, stored, added, done, runs, list_refusal, end_of}
 use Rattle.aggregate.specs.inner.Turns.{Starting, HasPlace, Addable}
-use Rattle.aggregate.specs.declared.Served.{Served}
+use Rattle.aggregate.specs.Told.{Served}
 use Rattle.aggregate.specs.declared.Totals.{Totals}
 use Rattle.aggregate.proofs.Verdicts.{refuses, logs_nothing}
 use Rattle.aggregate.proofs.Logging.{request_length_kept, at_most_510}
-use Rattle.aggregate.proofs.Keeping.{sessions_sound}
+use Rattle.aggregate.proofs.Keeping.{sessions_sound, served_rooted}
 use Rattle.aggregate.proofs.Runs.{stored_length}
 use Rattle.aggregate.proofs.Wholly.{runnable_by}
 
@@ -44,6 +44,7 @@ pub record Underway (s : Session) (list : List ℕ) (answers : List ℤ) (log : 
   pub same : runs due o ≡ end_of s list answers log place
   pub left : o.totals.requests + length due ≡ count
   pub few : count ≤ 4096
+  pub rooted : o.session.tree ≡ s.tree
   pub typed : Typed o.session
   pub holds : Sound 2 o.session
   pub sized : AllSized due
@@ -65,6 +66,7 @@ underway_first s list answers log place count first typed b =
       same = refl;
       left = omega (arith, b.counted, c.0);
       few = omega (arith, b.counted, a.few);
+      rooted = refl;
       typed = typed;
       holds = a.holds;
       sized = read_sized list;
@@ -156,6 +158,7 @@ module _ {s : Session} {list : List ℕ} {answers : List ℤ} {log : List ℕ} {
             same = goes_on e ∙ runs_now;
             left = omega (arith, left_now);
             few = u.few;
+            rooted = served_rooted o.session r (length o.log) o.totals.next ∙ u.rooted;
             typed = kept.0;
             holds = kept.1;
             sized = sized_now.1;

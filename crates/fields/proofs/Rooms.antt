@@ -11,9 +11,13 @@ use lib.Dec.{leb, ltb}
 use borrow.Author.Tests.{le-leb, lt-leb, lt-ltb, leb-true, ltb-true}
 use lib.ListN.{length}
 use Rattle.fields.specs.Fields.{field, put_field}
-use Rattle.fields.specs.Usable.{usable_bits, lies, takes, field_at, put_at, told}
+use Rattle.fields.specs.Usable.{usable_bits, lies, takes, field_at, put_at}
+use Rattle.refusal.specs.Numbers.{refusal_in, told}
+use Rattle.refusal.specs.declared.Refusal.{Refusal}
+use Rattle.refusal.proofs.Numbers.{numbers_apart, ok_no_err}
 use Rattle.fields.specs.Promises.{FoundExactly, NotFoundExactly, TakenExactly, TakenIsRead, RefusedIsKept}
-use Rattle.fields.specs.declared.Field.TheVariants.{Value, Short}
+use Rattle.std.specs.Prelude.{Ok, Err}
+use Rattle.refusal.specs.declared.Refusal.TheVariants.{Short}
 use Rattle.fields.proofs.Kept.{length_kept}
 use Rattle.fields.proofs.ReadBack.{read_back}
 
@@ -63,7 +67,7 @@ found_exactly s place w v = (
   λ h. rw (there (length s) place w h.0 h.1, h.2),
 )
   where
-    go : (b : Bool) → lies (length s) place w ≡ b → told (cond b (Value (field s place w)) Short) ≡ (0, v) → (w ≤ 64) × (place + w ≤ usable_bits (length s)) × (v ≡ field s place w)
+    go : (b : Bool) → lies (length s) place w ≡ b → told 0 (cond b (Ok (field s place w)) (Err Short)) ≡ (0, v) → (w ≤ 64) × (place + w ≤ usable_bits (length s)) × (v ≡ field s place w)
     go true p e = let h = lying (length s) place w p in (h.0, h.1, sym (ap (λ (t : ℕ × ℕ). t.1) e))
     go false p e = absurd (suc-ne-zero 0 (ap (λ (t : ℕ × ℕ). t.0) e))
 
@@ -74,24 +78,29 @@ not_found_exactly s place w = (
   ⊎_elim (λ h. rw (too_wide (length s) place w h)) (λ h. rw (past_end (length s) place w h)),
 )
   where
-    go : (b : Bool) → lies (length s) place w ≡ b → told (cond b (Value (field s place w)) Short) ≡ (1, 0) → (64 < w) ⊎ (usable_bits (length s) < place + w)
+    go : (b : Bool) → lies (length s) place w ≡ b → told 0 (cond b (Ok (field s place w)) (Err Short)) ≡ (1, 0) → (64 < w) ⊎ (usable_bits (length s) < place + w)
     go true p e = absurd (suc-ne-zero 0 (sym (ap (λ (t : ℕ × ℕ). t.0) e)))
     go false p e = missing (length s) place w p
 
 -- what an answer tells
-pub found : (s : List ℕ) (place w v : ℕ) → field_at s place w ≡ Value v → (w ≤ 64) × (place + w ≤ usable_bits (length s)) × (v ≡ field s place w)
-found s place w v e = (found_exactly s place w v).0 (ap told e)
+pub found : (s : List ℕ) (place w v : ℕ) → field_at s place w ≡ Ok v → (w ≤ 64) × (place + w ≤ usable_bits (length s)) × (v ≡ field s place w)
+found s place w v e = (found_exactly s place w v).0 (ap (told 0) e)
 
-pub cut_off : (s : List ℕ) (place w : ℕ) → w ≤ 64 → field_at s place w ≡ Short → usable_bits (length s) < place + w
-cut_off s place w h e = ⊎_elim (λ (l : 64 < w). absurd (omega arith)) (λ l. l) ((not_found_exactly s place w).0 (ap told e))
+pub cut_off : (s : List ℕ) (place w : ℕ) → w ≤ 64 → (r : Refusal) → field_at s place w ≡ Err r → (r ≡ Short) × (usable_bits (length s) < place + w)
+unfolding field_at
+cut_off s place w h r e = go (lies (length s) place w) refl e
+  where
+    go : (b : Bool) → lies (length s) place w ≡ b → cond b (Ok (field s place w)) (Err Short) ≡ Err r → (r ≡ Short) × (usable_bits (length s) < place + w)
+    go true p f = absurd (ok_no_err f)
+    go false p f = (numbers_apart r Short (sym (ap refusal_in f)), ⊎_elim (λ (l : 64 < w). absurd (omega arith)) (λ l. l) (missing (length s) place w p))
 
 -- what an answer tells of the first field
 module _ (s : List ℕ) (w : ℕ) where
-  pub first_found : (v : ℕ) → field_at s 0 w ≡ Value v → (w ≤ 8 * length s) × (v ≡ field s 0 w)
+  pub first_found : (v : ℕ) → field_at s 0 w ≡ Ok v → (w ≤ 8 * length s) × (v ≡ field s 0 w)
   first_found v e = let f = found s 0 w v e in (omega (arith, f.1), f.2)
 
-  pub first_cut_off : w ≤ 64 → field_at s 0 w ≡ Short → 8 * length s < w
-  first_cut_off h e = omega (arith, cut_off s 0 w h e)
+  pub first_cut_off : w ≤ 64 → (r : Refusal) → field_at s 0 w ≡ Err r → (r ≡ Short) × (8 * length s < w)
+  first_cut_off h r e = let f = cut_off s 0 w h r e in (f.0, omega (arith, f.1))
 
 -- ---- writing
 
@@ -104,6 +113,9 @@ taken_exactly n place w v = (
       (h.0, h.1, ltb-true v (2 ^ w) t.1),
   λ h. rw (there n place w h.0 h.1, lt-ltb v (2 ^ w) h.2),
 )
+
+pub taking : (n place w v : ℕ) → takes n place w v ≡ true → (w ≤ 64) × (place + w ≤ usable_bits n)
+taking n place w v e = let h = (taken_exactly n place w v).0 e in (h.0, h.1)
 
 pub taken_is_put : (s : List ℕ) (place w v : ℕ) → w ≤ 64 → place + w ≤ usable_bits (length s) → v < 2 ^ w → put_at s place w v ≡ put_field s place w v
 unfolding put_at

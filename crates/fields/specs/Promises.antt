@@ -2,7 +2,8 @@
 use Rattle.std.specs.Prelude.{◌≡◌, true, false, ◌⊎◌, ◌↔◌, List, ℕ, ◌+◌, ◌*◌, ◌^◌, ◌≤◌, ◌<◌, length, take}
 use Rattle.fields.specs.Bits.{Bytes, bit}
 use Rattle.fields.specs.Fields.{field, put_field}
-use Rattle.fields.specs.Usable.{usable_bits, takes, field_at, put_at, told}
+use Rattle.fields.specs.Usable.{usable_bits, takes, field_at, put_at}
+use Rattle.refusal.specs.Numbers.{told}
 
 -- A field reads back as it was written.
 abbrev pub ReadBack : Type 0
@@ -49,11 +50,11 @@ ReadOfFirst = (n : ℕ) (s : List ℕ) (place w : ℕ) → place + w ≤ 8 * n �
 
 -- Reading finds the number exactly where the field is at most 64 bits wide and lies in the usable bytes.
 abbrev pub FoundExactly : Type 0
-FoundExactly = (s : List ℕ) (place w v : ℕ) → (told (field_at s place w) ≡ (0, v)) ↔ ((w ≤ 64) × (place + w ≤ usable_bits (length s)) × (v ≡ field s place w))
+FoundExactly = (s : List ℕ) (place w v : ℕ) → (told 0 (field_at s place w) ≡ (0, v)) ↔ ((w ≤ 64) × (place + w ≤ usable_bits (length s)) × (v ≡ field s place w))
 
 -- Reading is refused, with 1 and a zero, exactly where the field is wider than 64 bits or does not lie in the usable bytes.
 abbrev pub NotFoundExactly : Type 0
-NotFoundExactly = (s : List ℕ) (place w : ℕ) → (told (field_at s place w) ≡ (1, 0)) ↔ ((64 < w) ⊎ (usable_bits (length s) < place + w))
+NotFoundExactly = (s : List ℕ) (place w : ℕ) → (told 0 (field_at s place w) ≡ (1, 0)) ↔ ((64 < w) ⊎ (usable_bits (length s) < place + w))
 
 -- Writing takes a number exactly where the field is at most 64 bits wide, lies in the usable bytes and has room for it.
 abbrev pub TakenExactly : Type 0
@@ -61,7 +62,7 @@ TakenExactly = (n place w v : ℕ) → (takes n place w v ≡ true) ↔ ((w ≤ 
 
 -- A number that was taken is read; a number that was not taken changes nothing.
 abbrev pub TakenIsRead : Type 0
-TakenIsRead = (s : List ℕ) (place w v : ℕ) → takes (length s) place w v ≡ true → told (field_at (put_at s place w v) place w) ≡ (0, v)
+TakenIsRead = (s : List ℕ) (place w v : ℕ) → takes (length s) place w v ≡ true → told 0 (field_at (put_at s place w v) place w) ≡ (0, v)
 
 abbrev pub RefusedIsKept : Type 0
 RefusedIsKept = (s : List ℕ) (place w v : ℕ) → takes (length s) place w v ≡ false → put_at s place w v ≡ s

@@ -3,6 +3,7 @@ ghost use Rattle.std.specs.Prelude.{◌≡◌, ◌*◌, ◌<◌, length};
 ghost use Rattle.fields.specs.Bits.{bit, put_bit, patch};
 ghost use Rattle.fields.specs.Bits;
 
+#[tactic(auto, unfolding(crate::specs::Bits::bit, crate::specs::Bits::digit, crate::specs::Bits::weight))]
 pub fn read(bytes: &[u8], k: usize) -> u64
     requires { k < 8 * length bytes.now }
     ensures { result ≡ bit bytes.now k }
@@ -11,6 +12,7 @@ pub fn read(bytes: &[u8], k: usize) -> u64
     ((x >> (7 - k % 8)) % 2) as u64
 }
 
+#[tactic(auto, unfolding(crate::specs::Bits::put_bit))]
 pub fn write(bytes: &mut [u8], k: usize, b: u8)
     requires { (b < 2) × (k < 8 * length bytes.old) }
     ensures { bytes.new ≡ put_bit bytes.old k b }
@@ -29,6 +31,7 @@ fn patched(x: u8, k: usize, b: u8) -> u8
 }
 
 // What bit k counts in its byte.
+#[tactic(auto, unfolding(crate::specs::Bits::weight))]
 fn weight(k: usize) -> u8
     ensures { result ≡ Bits.weight k }
 {

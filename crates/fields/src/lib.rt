@@ -11,28 +11,24 @@ mod span; // the bits of a field, one by one
 ghost use Rattle.std.specs.Prelude.{◌≡◌, length};
 ghost use Rattle.fields.specs.Usable.{takes, field_at, put_at};
 
+use refusal::Refusal;
 pub use room::usable_bits;
 
-// What reading a field finds.
-#[derive(Clone, Copy)]
-pub enum Field {
-    Value(u64),
-    // the usable bytes end before the field does, or it is wider than 64 bits
-    Short,
-}
-
-// The number in the width bits from place on.
-pub fn get(bytes: &[u8], place: usize, width: usize) -> Field
+// The number in the width bits from place on. Refusal: 1 the usable bytes end before the field does, or
+// it is wider than 64 bits.
+#[tactic(auto, unfolding(crate::specs::Usable::field_at), using(crate::proofs::Rooms::lying))]
+pub fn get(bytes: &[u8], place: usize, width: usize) -> Result<u64, Refusal>
     ensures { result ≡ field_at bytes.now place width }
 {
     if room::lies(bytes.len(), place, width) {
-        return Field::Value(span::read(bytes, place, width));
+        return Ok(span::read(bytes, place, width));
     }
-    Field::Short
+    Err(Refusal::Short)
 }
 
 // Makes the width bits from place on hold value, and answers true. Where the usable bytes have no
 // such bits, or the bits no room for the value, it answers false and changes nothing.
+#[tactic(auto, unfolding(crate::specs::Usable::put_at), using(crate::proofs::Rooms::taking))]
 pub fn put(bytes: &mut [u8], place: usize, width: usize, value: u64) -> bool
     ensures { (result ≡ takes (length bytes.old) place width value) × (bytes.new ≡ put_at bytes.old place width value) }
 {

@@ -17,28 +17,21 @@ pub fn usable_bits(len: usize) -> usize
 }
 
 // Whether the width bits from place on are at most 64 and lie in the usable ones of len bytes.
+#[tactic(auto, unfolding(crate::specs::Usable::lies))]
 pub fn lies(len: usize, place: usize, width: usize) -> bool
     ensures { result ≡ Usable.lies len place width }
 {
     let end = usable_bits(len);
-    if 64 < width {
-        return false;
-    }
-    if end < place {
-        return false;
-    }
-    width <= end - place
+    width <= 64 && place <= end && width <= end - place
 }
 
 // Whether the width bits from place on are at most 64, lie in the usable ones of len bytes, and have
 // room for value.
+#[tactic(auto, unfolding(crate::specs::Usable::takes), using(crate::proofs::Rooms::lying))]
 pub fn takes(len: usize, place: usize, width: usize, value: u64) -> bool
     ensures { result ≡ Usable.takes len place width value }
 {
-    if lies(len, place, width) {
-        return holds(width, value);
-    }
-    false
+    lies(len, place, width) && holds(width, value)
 }
 
 // Whether a field of width bits has room for value.
@@ -46,10 +39,7 @@ fn holds(width: usize, value: u64) -> bool
     requires { width ≤ 64 }
     ensures { result ≡ ltb value (2 ^ width) }
 {
-    if width == 64 {
-        return true;
-    }
-    value < power(width)
+    width == 64 || value < power(width)
 }
 
 // 2 to the n.

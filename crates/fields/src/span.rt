@@ -22,11 +22,9 @@ pub fn write(bytes: &mut [u8], place: usize, width: usize, value: u64)
     requires { place + width ≤ usable_bits (length bytes.old) }
     ensures { bytes.new ≡ put_field bytes.old place width value }
 {
-    let mut left = width;
     let mut rest = value;
-    while 0 < left {
-        left -= 1;
-        bit::write(bytes, place + left, (rest % 2) as u8);
+    for i in (0..width).rev() {
+        bit::write(bytes, place + i, (rest % 2) as u8);
         rest /= 2;
     }
 }

@@ -2,16 +2,20 @@
 use mathlib.Core.Path.{◌≡◌, refl}
 use mathlib.Core.Bool.{Bool, true, false, cond, ◌||◌}
 use mathlib.Core.Logic.{◌⊎◌, inl, inr}
-use Prim.Native.Nat.{ℕ, ◌+◌, ◌*◌, ◌/◌, ◌%◌, ◌^◌, ◌<◌}
+use Prim.Native.Nat.{ℕ, zero, suc, ◌+◌, ◌-◌, ◌*◌, ◌/◌, ◌%◌, ◌^◌, ◌<◌}
+use mathlib.Core.List.{List}
 use native.Mathlib.Omega.{arith}
 use lib.Dec.{eqb}
 use lib.IntN.{ℤ}
 use lib.Signed.{mag}
-use borrow.Author.Tests.{ne_eqb, ltb-true}
+use borrow.Author.Tests.{ltb-true}
 use Rattle.twos.specs.Twos.{twos, signed, within}
 use Rattle.twos.proofs.Signs.{signed_twos}
 use Rattle.messages.specs.Records.{kind_of, width_of, head_of, record_of, coded}
-use Rattle.messages.specs.Reading.{message_of, decoded}
+use Rattle.fields.specs.Fields.{field}
+use Rattle.fields.proofs.ReadBack.{field_lt}
+use Rattle.messages.proofs.Stands.{head, with_value}
+use Rattle.messages.specs.Reading.{message_of, message_at, decoded}
 use Rattle.messages.specs.declared.Message.TheVariants.{Probe, Response, Update, Release}
 use Rattle.messages.specs.Promises.{CodedBack}
 use Rattle.messages.proofs.Widths.{value_lt}
@@ -24,25 +28,6 @@ short_or_long kind = go (eqb kind 1 || eqb kind 2)
     go : (b : Bool) → (◌≡◌ {A = ℕ} (cond b 58 18) 18) ⊎ (◌≡◌ {A = ℕ} (cond b 58 18) 58)
     go true = inr refl
     go false = inl refl
-
--- the message of a number, by its kind
-module _ (n a b : ℕ) (from : a ≡ n / 281474976710656 % 256) (to : b ≡ n / 1099511627776 % 256) where
-  pub is_probe : n / 72057594037927936 ≡ 0 → Probe a b ≡ decoded n
-  unfolding decoded message_of
-  is_probe e = rw (e, from, to)
-
-  pub is_release : (n / 72057594037927936 ≡ 0 → ⊥) → (n / 72057594037927936 ≡ 1 → ⊥) → (n / 72057594037927936 ≡ 2 → ⊥) → Release a b ≡ decoded n
-  unfolding decoded message_of
-  is_release f g h = rw (ne_eqb (n / 72057594037927936) 0 f, ne_eqb (n / 72057594037927936) 1 g, ne_eqb (n / 72057594037927936) 2 h, from, to)
-
-  module _ (z : ℤ) (values : z ≡ signed 40 (n % 1099511627776)) where
-    pub is_response : n / 72057594037927936 ≡ 1 → Response a b z ≡ decoded n
-    unfolding decoded message_of
-    is_response e = rw (e, from, to, values)
-
-    pub is_update : n / 72057594037927936 ≡ 2 → Update a b z ≡ decoded n
-    unfolding decoded message_of
-    is_update e = rw (e, from, to, values)
 
 -- the parts of a number n that has v behind the head of a record
 record Parts (n kind a b v : ℕ) : Type 0 where
@@ -63,3 +48,36 @@ coded_back (Probe a b) (ha, hb, h) = let p = parts (head_of 0 a b * 2 ^ 40) 0 a 
 coded_back (Response a b z) (ha, hb, h) = let p = parts ((head_of 1 a b * 2 ^ 40 + twos 40 z) * 1) 1 a b (twos 40 z) (omega arith) ha hb (value_lt z h) in rw (p.kinds, p.senders, p.receivers, p.values, value_back z h)
 coded_back (Update a b z) (ha, hb, h) = let p = parts ((head_of 2 a b * 2 ^ 40 + twos 40 z) * 1) 2 a b (twos 40 z) (omega arith) ha hb (value_lt z h) in rw (p.kinds, p.senders, p.receivers, p.values, value_back z h)
 coded_back (Release a b) (ha, hb, h) = let p = parts (head_of 3 a b * 2 ^ 40) 3 a b 0 (omega arith) ha hb (omega arith) in rw (p.kinds, p.senders, p.receivers)
+
+-- the message of the record that stands at a place, with zero bits behind it
+module _ (s : List ℕ) (place : ℕ) where
+  from_lt : field s (place + 2) 8 < 256
+  from_lt = field_lt s (place + 2) 8
+
+  to_lt : field s (place + 10) 8 < 256
+  to_lt = field_lt s (place + 10) 8
+
+  value_lies : field s (place + 18) 40 < 2 ^ 40
+  value_lies = field_lt s (place + 18) 40
+
+  pub decoded_there : (kind : ℕ) → kind ≡ field s place 2 → decoded (field s place (width_of kind) * 2 ^ (58 - width_of kind)) ≡ message_at s place kind
+  unfolding decoded width_of message_at message_of
+  decoded_there zero e =
+      let h = head s place in
+      let p = parts (field s place 18 * 2 ^ 40) 0 (field s (place + 2) 8) (field s (place + 10) 8) 0 (omega arith) from_lt to_lt (omega arith) in
+      rw (p.kinds, p.senders, p.receivers)
+  decoded_there (suc zero) e =
+      let h = head s place in
+      let v = with_value s place in
+      let p = parts (field s place 58 * 1) 1 (field s (place + 2) 8) (field s (place + 10) 8) (field s (place + 18) 40) (omega arith) from_lt to_lt value_lies in
+      rw (p.kinds, p.senders, p.receivers, p.values)
+  decoded_there (suc (suc zero)) e =
+      let h = head s place in
+      let v = with_value s place in
+      let p = parts (field s place 58 * 1) 2 (field s (place + 2) 8) (field s (place + 10) 8) (field s (place + 18) 40) (omega arith) from_lt to_lt value_lies in
+      rw (p.kinds, p.senders, p.receivers, p.values)
+  decoded_there (suc (suc (suc zero))) e =
+      let h = head s place in
+      let p = parts (field s place 18 * 2 ^ 40) 3 (field s (place + 2) 8) (field s (place + 10) 8) 0 (omega arith) from_lt to_lt (omega arith) in
+      rw (p.kinds, p.senders, p.receivers)
+  decoded_there (suc (suc (suc (suc k)))) e = absurd (omega (arith, field_lt s place 2))

@@ -1,10 +1,11 @@
 -- The laws, from a record's width up to what a caller of the public functions cites.
-pub mod Parts
 pub mod Widths
-pub mod Coding
+pub mod Parts
 pub mod ByKind
 pub mod Stands
+pub mod Coding
 pub mod Entries
+pub mod Found
 pub mod Answers
 pub mod Logs
 pub mod Stretches

@@ -10,11 +10,11 @@ use lib.ListN.{length}
 use borrow.Author.Tests.{eq-eqb}
 use Rattle.fields.specs.Usable.{usable_bits}
 use Rattle.messages.specs.Records.{kind_of}
-use Rattle.messages.specs.Reading.{entry_at, told, Reads, followed, messages_from}
+use Rattle.messages.specs.Reading.{Entry, entry_at, told, Reads, followed, messages_from}
 use Rattle.messages.specs.Promises.{MessagesOfRead}
 use Rattle.messages.specs.declared.Message.{Message}
-use Rattle.messages.specs.declared.Entry.{Entry}
-use Rattle.messages.specs.declared.Entry.TheVariants.{Read, End, Short}
+use Rattle.std.specs.Prelude.{Some, None, Ok, Err}
+use Rattle.refusal.specs.declared.Refusal.TheVariants.{Short}
 use Rattle.messages.proofs.Widths.{width_bounds}
 use Rattle.messages.proofs.Entries.{told_read, read_exactly}
 
@@ -25,16 +25,16 @@ messages_none s place end zero h = refl
 messages_none s place end (suc k) h = none (entry_at s place end) h
   where
     none : (x : Entry) → (told x).1 ≡ [] → followed x (λ next. messages_from k s next end) ≡ []
-    none (Read m next) h = absurd (suc-ne-zero 0 (ap length h))
-    none End h = refl
-    none Short h = refl
+    none (Ok (Some x)) h = absurd (suc-ne-zero 0 (ap length h))
+    none (Ok None) h = refl
+    none (Err r) h = refl
 
 -- between a place and itself stands none
 pub nothing_between : (k : ℕ) (s : List ℕ) (place : ℕ) → messages_from k s place place ≡ []
 unfolding entry_at
 nothing_between k s place = messages_none s place place k (rw (eq-eqb place place refl) (go (leb place (usable_bits (length s)))))
   where
-    go : (b : Bool) → (told (cond b End Short)).1 ≡ []
+    go : (b : Bool) → (told (cond b (Ok None) (Err Short))).1 ≡ []
     go true = refl
     go false = refl
 

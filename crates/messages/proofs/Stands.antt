@@ -17,17 +17,16 @@ use Rattle.messages.specs.Reading.{message_of, message_at}
 use Rattle.messages.specs.declared.Message.{Message}
 use Rattle.messages.specs.declared.Message.TheVariants.{Probe, Response, Update, Release}
 use Rattle.messages.proofs.Widths.{value_lt}
-use Rattle.messages.proofs.ByKind.{is_probe, is_response, is_update, is_release}
 
 module _ (s : List ℕ) (place : ℕ) where
   -- the fields that every record begins with, and the value behind them
-  head : field s place 18 ≡ head_of (field s place 2) (field s (place + 2) 8) (field s (place + 10) 8)
+  pub head : field s place 18 ≡ head_of (field s place 2) (field s (place + 2) 8) (field s (place + 10) 8)
   head =
       let f : field s place 18 ≡ field s place 10 * 2 ^ 8 + field s (place + 10) 8 = read_two s place 10 8 in
       let g : field s place 10 ≡ field s place 2 * 2 ^ 8 + field s (place + 2) 8 = read_two s place 2 8 in
       omega arith
 
-  with_value : field s place 58 ≡ field s place 18 * 2 ^ 40 + field s (place + 18) 40
+  pub with_value : field s place 58 ≡ field s place 18 * 2 ^ 40 + field s (place + 18) 40
   with_value = read_two s place 18 40
 
   from_lt : field s (place + 2) 8 < 256
@@ -86,16 +85,18 @@ module _ (s : List ℕ) (place : ℕ) where
           sym (signed_twos 40 (omega arith) z (ltb-true (mag z) (2 ^ 39) hz)) ∙ ap (signed 40) (sym f)
 
   pub is_read : (m : Message) → Sized m → field s place (bits_of m) ≡ record_of m → (kind_of m ≡ field s place 2) × (m ≡ message_at s place (kind_of m))
-  unfolding kind_of record_of width_of
+  unfolding kind_of record_of width_of message_at message_of
   is_read (Probe a b) (ha, hb, ok) e =
       let h = short 0 a b ha hb e in
-      (h.kind_is, is_probe s place 0 a b h.from_is h.to_is refl)
+      (h.kind_is, cc)
   is_read (Response a b z) (ha, hb, ok) e =
       let h = long 1 a b ha hb z ok e in
-      (h.kind_is, is_response s place 1 a b h.from_is h.to_is z (value 1 a b ha hb z ok e) refl)
+      let v = value 1 a b ha hb z ok e in
+      (h.kind_is, cc)
   is_read (Update a b z) (ha, hb, ok) e =
       let h = long 2 a b ha hb z ok e in
-      (h.kind_is, is_update s place 2 a b h.from_is h.to_is z (value 2 a b ha hb z ok e) refl)
+      let v = value 2 a b ha hb z ok e in
+      (h.kind_is, cc)
   is_read (Release a b) (ha, hb, ok) e =
       let h = short 3 a b ha hb e in
-      (h.kind_is, is_release s place 3 a b h.from_is h.to_is (λ i. omega arith) (λ i. omega arith) (λ i. omega arith))
+      (h.kind_is, cc)

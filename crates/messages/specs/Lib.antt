@@ -3,3 +3,4 @@ pub mod Records
 pub mod Writing
 pub mod Reading
 pub mod Promises
+pub mod inner

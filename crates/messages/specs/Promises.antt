@@ -3,9 +3,10 @@ use Rattle.std.specs.Prelude.{◌≡◌, true, false, List, [], ◌∷◌, ◌�
 use Rattle.fields.specs.Bits.{bit}
 use Rattle.fields.specs.Fields.{field}
 use Rattle.fields.specs.Usable.{usable_bits}
-use Rattle.messages.specs.Records.{Sized, AllSized, fits, bits_of, record_of, width_of, coded, coded_of, told_coded}
-use Rattle.messages.specs.Writing.{recorded_of, log_after, told_recorded, logged, bits_of_all}
+use Rattle.messages.specs.Records.{Sized, AllSized, fits, bits_of, record_of, width_of, coded, coded_of}
+use Rattle.messages.specs.Writing.{recorded_of, log_after, logged, bits_of_all}
 use Rattle.messages.specs.Reading.{decoded, entry_at, told, Reads, messages_from}
+use Rattle.refusal.specs.Numbers.{told as told_of}
 use Rattle.messages.specs.declared.Message.{Message}
 
 -- A record is a field of 18 or 58 bits.
@@ -14,10 +15,10 @@ RecordFits = (m : Message) → Sized m → record_of m < 2 ^ bits_of m
 
 -- A message has a number exactly where its value fits 40 bits; where the value does not fit, 11 is answered.
 abbrev pub CodedExactly : Type 0
-CodedExactly = (m : Message) (n : ℕ) → (told_coded (coded_of m) ≡ (0, n)) ↔ ((fits m ≡ true) × (n ≡ coded m))
+CodedExactly = (m : Message) (n : ℕ) → (told_of 0 (coded_of m) ≡ (0, n)) ↔ ((fits m ≡ true) × (n ≡ coded m))
 
 abbrev pub UncodedExactly : Type 0
-UncodedExactly = (m : Message) → (told_coded (coded_of m) ≡ (11, 0)) ↔ (fits m ≡ false)
+UncodedExactly = (m : Message) → (told_of 0 (coded_of m) ≡ (11, 0)) ↔ (fits m ≡ false)
 
 -- A message is read back from its number.
 abbrev pub CodedBack : Type 0
@@ -25,15 +26,15 @@ CodedBack = (m : Message) → Sized m → decoded (coded m) ≡ m
 
 -- A message is written exactly where its record lies in the usable log and its value fits 40 bits.
 abbrev pub RecordedExactly : Type 0
-RecordedExactly = (n place next : ℕ) (m : Message) → (told_recorded (recorded_of n place m) ≡ (0, next)) ↔ ((place + bits_of m ≤ usable_bits n) × (fits m ≡ true) × (next ≡ place + bits_of m))
+RecordedExactly = (n place next : ℕ) (m : Message) → (told_of 0 (recorded_of n place m) ≡ (0, next)) ↔ ((place + bits_of m ≤ usable_bits n) × (fits m ≡ true) × (next ≡ place + bits_of m))
 
 -- A message is refused with 9 exactly where the usable log ends before its record does.
 abbrev pub FullExactly : Type 0
-FullExactly = (n place : ℕ) (m : Message) → (told_recorded (recorded_of n place m) ≡ (9, 0)) ↔ (usable_bits n < place + bits_of m)
+FullExactly = (n place : ℕ) (m : Message) → (told_of 0 (recorded_of n place m) ≡ (9, 0)) ↔ (usable_bits n < place + bits_of m)
 
 -- A message is refused with 11 exactly where there is room for its record, but its value does not fit.
 abbrev pub MisfitExactly : Type 0
-MisfitExactly = (n place : ℕ) (m : Message) → (told_recorded (recorded_of n place m) ≡ (11, 0)) ↔ ((place + bits_of m ≤ usable_bits n) × (fits m ≡ false))
+MisfitExactly = (n place : ℕ) (m : Message) → (told_of 0 (recorded_of n place m) ≡ (11, 0)) ↔ ((place + bits_of m ≤ usable_bits n) × (fits m ≡ false))
 
 -- Writing messages keeps the log's length, and the bits before and after their records, also inside a shared byte.
 abbrev pub LogLengthKept : Type 0

@@ -1,10 +1,10 @@
 -- A message as a record: kind in 2 bits (0 probe, 1 response, 2 update, 3 release), sender in 8, receiver in 8, and for response and update the value in 40 bits, two's complement.
-use Rattle.std.specs.Prelude.{◌≡◌, Bool, true, cond, ◌||◌, List, [], ◌∷◌, ℕ, ◌+◌, ◌-◌, ◌*◌, ◌^◌, ◌<◌, eqb}
+use Rattle.std.specs.Prelude.{◌≡◌, Bool, true, cond, ◌||◌, List, [], ◌∷◌, ℕ, ◌+◌, ◌-◌, ◌*◌, ◌^◌, ◌<◌, eqb, Result, Ok, Err}
+use Rattle.refusal.specs.declared.Refusal.{Refusal}
+use Rattle.refusal.specs.declared.Refusal.TheVariants.{Misfit}
 use Rattle.twos.specs.Twos.{twos, within}
 use Rattle.messages.specs.declared.Message.{Message}
 use Rattle.messages.specs.declared.Message.TheVariants.{Probe, Response, Update, Release}
-use Rattle.messages.specs.declared.Coded.{Coded}
-use Rattle.messages.specs.declared.Coded.TheVariants.{Number, Misfit}
 
 unfoldable pub kind_of : Message → ℕ
 kind_of (Probe a b) = 0
@@ -61,10 +61,5 @@ unfoldable pub coded : Message → ℕ
 coded m = record_of m * 2 ^ (58 - bits_of m)
 
 -- what is answered for a message: its number, where its value fits
-unfoldable pub coded_of : Message → Coded
-coded_of m = cond (fits m) (Number (coded m)) Misfit
-
--- document 01's number for what was answered, and the number of the message: 11 where its value does not fit 40 bits
-abbrev pub told_coded : Coded → ℕ × ℕ
-told_coded (Number n) = (0, n)
-told_coded Misfit = (11, 0)
+unfoldable pub coded_of : Message → Result ℕ Refusal
+coded_of m = cond (fits m) (Ok (coded m)) (Err Misfit)

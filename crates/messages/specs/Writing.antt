@@ -1,29 +1,23 @@
 -- What writing a message answers, and the log after it.
-use Rattle.std.specs.Prelude.{Bool, cond, ◌&&◌, List, [], ◌∷◌, ℕ, ◌+◌, leb, length}
+use Rattle.std.specs.Prelude.{Bool, cond, ◌&&◌, List, [], ◌∷◌, ℕ, ◌+◌, leb, length, Result, Ok, Err}
+use Rattle.refusal.specs.declared.Refusal.{Refusal}
+use Rattle.refusal.specs.declared.Refusal.TheVariants.{NoRoom, Misfit}
 use Rattle.fields.specs.Fields.{put_field}
 use Rattle.fields.specs.Usable.{usable_bits}
 use Rattle.messages.specs.Records.{fits, bits_of, record_of}
 use Rattle.messages.specs.declared.Message.{Message}
-use Rattle.messages.specs.declared.Recorded.{Recorded}
-use Rattle.messages.specs.declared.Recorded.TheVariants.{Next, Full, Misfit}
 
 -- a record of m from place on lies in the usable log of n bytes
 abbrev pub room : ℕ → ℕ → Message → Bool
 room n place m = leb (place + bits_of m) (usable_bits n)
 
 -- what writing m answers: room is looked at first
-unfoldable pub recorded_of : ℕ → ℕ → Message → Recorded
-recorded_of n place m = cond (room n place m) (cond (fits m) (Next (place + bits_of m)) Misfit) Full
+unfoldable pub recorded_of : ℕ → ℕ → Message → Result ℕ Refusal
+recorded_of n place m = cond (room n place m) (cond (fits m) (Ok (place + bits_of m)) (Err Misfit)) (Err NoRoom)
 
 -- the log after m is written: the record is one field of it; where m is refused the log stays as it is
 unfoldable pub log_after : List ℕ → ℕ → Message → List ℕ
 log_after s place m = cond (room (length s) place m && fits m) (put_field s place (bits_of m) (record_of m)) s
-
--- document 01's number and the next place: 9 where the log has too few bits, 11 where the value does not fit 40
-abbrev pub told_recorded : Recorded → ℕ × ℕ
-told_recorded (Next place) = (0, place)
-told_recorded Full = (9, 0)
-told_recorded Misfit = (11, 0)
 
 -- the log after a list of messages, each from the place after the one before
 unfoldable pub logged : List ℕ → ℕ → List Message → List ℕ

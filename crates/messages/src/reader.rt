@@ -2,7 +2,8 @@
 ghost use Rattle.std.specs.Prelude.{◌≡◌};
 ghost use Rattle.messages.specs.Reading.{entry_at, place_after};
 
-use crate::Entry;
+use crate::Message;
+use refusal::Refusal;
 
 // A lent log and the place in it.
 #[derive(Clone, Copy)]
@@ -21,22 +22,13 @@ impl<'a> LogReader<'a> {
 
     // What stands at the reader's place, before end. The reader is past it if it is a message, and
     // stays where it is if not.
-    pub fn read(&mut self, end: usize) -> Entry
+    pub fn read(&mut self, end: usize) -> Result<Option<(Message, usize)>, Refusal>
         ensures { (result ≡ entry_at self.old.log.now self.old.place end) × (self.new.log ≡ self.old.log) × (self.new.place ≡ place_after result self.old.place) }
     {
-        let e = crate::read(self.log, self.place, end);
-        self.place = place_after(e, self.place);
-        e
-    }
-}
-
-// The place after what was read: past a message, else where it was.
-pub fn place_after(e: Entry, place: usize) -> usize
-    ensures { result ≡ place_after e place }
-{
-    match e {
-        Entry::Read(_, next) => next,
-        Entry::End => place,
-        Entry::Short => place,
+        let entry = crate::read(self.log, self.place, end)?;
+        if let Some((_, next)) = entry {
+            self.place = next;
+        }
+        Ok(entry)
     }
 }

@@ -11,7 +11,8 @@ use lib.ListN.{length}
 use borrow.Author.Tests.{le-leb, lt-leb, leb-true, eq-eqb, ne_eqb, eqb-true}
 use Rattle.fields.specs.Fields.{field}
 use Rattle.fields.specs.Usable.{usable_bits, field_at}
-use Rattle.fields.specs.declared.Field.TheVariants.{Value, Short}
+use Rattle.std.specs.Prelude.{Ok, Err}
+use Rattle.refusal.specs.declared.Refusal.{Refusal}
 use Rattle.fields.proofs.Rooms.{found, cut_off}
 use Rattle.packed.specs.Parts.{bytes_for, left, ends}
 use Rattle.packed.specs.Promises.{EndsExactly, LeftOverExactly}
@@ -50,9 +51,9 @@ module _ (s : List ℕ) (place : ℕ) where
   ends_more h = rw (ne_eqb (length s) (bytes_for place) h) (and-false (leb place (usable_bits (length s))))
 
   module _ (u : place ≤ usable_bits (length s)) (e : length s ≡ bytes_for place) (w : ℕ) (q : w ≡ left place) where
-    pub ends_there : field_at s place w ≡ Short → ⊥
-    ends_there f = omega (arith, cut_off s place w (omega arith) f)
+    pub ends_there : (r : Refusal) → field_at s place w ≡ Err r → ⊥
+    ends_there r f = omega (arith, (cut_off s place w (omega arith) r f).1)
 
-    pub ends_as : (n : ℕ) → field_at s place w ≡ Value n → eqb n 0 ≡ ends s place
+    pub ends_as : (n : ℕ) → field_at s place w ≡ Ok n → eqb n 0 ≡ ends s place
     unfolding ends
     ends_as n f = rw (le-leb place (usable_bits (length s)) u, eq-eqb (length s) (bytes_for place) e, ← q, ← (found s place w n f).2)

@@ -7,6 +7,7 @@ ghost use Rattle.packed.specs.Parts as spec;
 
 // Whether the bytes end at place: what is left from there on is zero bits to the byte, and no byte
 // more.
+#[tactic(auto, using(crate::proofs::Filling::ends_past, crate::proofs::Filling::ends_more))]
 pub fn ends(bytes: &[u8], place: usize) -> bool
     ensures { result ≡ spec.ends bytes.now place }
 {
@@ -17,8 +18,8 @@ pub fn ends(bytes: &[u8], place: usize) -> bool
     if bytes.len() != whole {
         return false;
     }
-    let fields::Field::Value(filling) = fields::get(bytes, place, 8 * whole - place) else {
-        return false;
-    };
-    filling == 0
+    match fields::get(bytes, place, 8 * whole - place) {
+        Ok(filling) => filling == 0,
+        Err(_) => false,
+    }
 }

@@ -3,7 +3,7 @@ use mathlib.Core.Path.{◌≡◌, sym, ap, refl, ◌∙◌}
 use Rattle.std.specs.Prelude.{ℕ, cond, eqb, Ok, Err}
 use Rattle.std.proofs.Common.{arith}
 use Rattle.refusal.specs.Promises.{NumbersWithin, NumbersApart, ToldApart}
-use Rattle.refusal.specs.Numbers.{number}
+use Rattle.refusal.specs.Numbers.{number, refusal_in}
 use Rattle.refusal.specs.declared.Refusal.{Refusal}
 use Rattle.refusal.specs.declared.Refusal.TheVariants.{Short, NodeCount, Parent, LeftOver, ListCount, Unsound, NoNode, Limit, NoRoom, FewAnswers, Misfit}
 
@@ -41,6 +41,10 @@ numbers_within Limit = (omega arith, omega arith)
 numbers_within NoRoom = (omega arith, omega arith)
 numbers_within FewAnswers = (omega arith, omega arith)
 numbers_within Misfit = (omega arith, omega arith)
+
+-- an answer is no refusal
+pub ok_no_err : {A : Type 0} {a : A} {r : Refusal} → Ok a ≡ Err r → ⊥
+ok_no_err {r = r} e = omega (arith, ap refusal_in e, numbers_within r)
 
 pub told_apart : {A : Type 0} → ToldApart A
 told_apart z (Ok a) (Ok b) e = ap Ok (ap (λ p. p.1) e)

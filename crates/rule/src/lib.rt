@@ -9,7 +9,7 @@ ghost use Rattle.std.specs.Prelude.{◌≡◌, replicate};
 ghost use Rattle.rule.specs.Pair.{combine, write, number_after};
 
 #[derive(Clone, Copy)]
-pub struct Rule {}
+pub struct Rule;
 
 impl Rule {
     // A lease is granted after so many combines in a row.
@@ -17,23 +17,23 @@ impl Rule {
     // A lease is broken after so many writes in a row.
     pub const BREAK: u8 = 2;
 
-    // The lease number after so many combines in a row.
+    // The lease number after so many combines in a row: one is enough.
+    #[tactic(auto, using(crate::proofs::Runs::granted, crate::proofs::Runs::none_changes))]
     pub fn after_combines(number: u8, combines: u32) -> u8
         ensures { result ≡ number_after 2 number (replicate combines combine) }
     {
-        if Rule::GRANT <= combines {
-            return Rule::BREAK;
+        if Self::GRANT <= combines {
+            Self::BREAK
+        } else {
+            number
         }
-        number
     }
 
-    // The lease number after so many writes in a row.
+    // The lease number after so many writes in a row: each lowers it by one, down to 0.
+    #[tactic(auto, using(crate::proofs::Runs::number_writes))]
     pub fn after_writes(number: u8, writes: u32) -> u8
         ensures { result ≡ number_after 2 number (replicate writes write) }
     {
-        if (number as u32) <= writes {
-            return 0;
-        }
-        number - (writes as u8)
+        u32::from(number).saturating_sub(writes) as u8
     }
 }

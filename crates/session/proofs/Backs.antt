@@ -12,7 +12,7 @@ use Rattle.fields.proofs.Verdicts.{verdict_exactly}
 use Rattle.table.specs.Layout.{table_size}
 use Rattle.table.specs.Reading.{tree_of}
 use Rattle.table.specs.Writing as table
-use Rattle.table.specs.declared.Written.{Written}
+use Rattle.table.specs.Told.{Written}
 use Rattle.table.proofs.RoundTrip as table_laws
 use Rattle.table.proofs.Verdicts.{table_ruled_exactly, reading_accepted}
 use Rattle.session.specs.Promises.{SessionWrittenExactly, LoadedWritesBack, WrittenLoadsBack, SessionOutputKept}

@@ -1,5 +1,6 @@
 -- The laws of sessions, by what they say.
 pub mod Limits
+pub mod AllZero
 pub mod AllEntries
 pub mod Indices
 pub mod Keeping
@@ -9,4 +10,5 @@ pub mod Soundly
 pub mod InPasses
 pub mod Starts
 pub mod Backs
+pub mod Told
 pub mod Outcomes

@@ -1,7 +1,7 @@
 -- The limits of an entry, and what they say together.
 use mathlib.Core.Path.{◌≡◌, refl, sym, ap, ap₂, ◌∙◌}
 use mathlib.Core.Bool.{Bool, true, false, not, ◌&&◌, true≢false, and-eq-true_iff}
-use Prim.Native.Nat.{ℕ, zero, suc, ◌+◌, ◌*◌, ◌^◌, ◌≤◌, ◌<◌}
+use Prim.Native.Nat.{ℕ, zero, suc, ◌*◌, ◌^◌, ◌≤◌, ◌<◌}
 use native.Mathlib.Omega.{arith}
 use lib.Dec.{eqb, leb, ltb}
 use lib.Bits.{bit_or, or_add_and, and_le_l, and_le_r}
@@ -10,11 +10,9 @@ use lib.Signed.{le_z, lt_z, mag}
 use borrow.Author.Tests.{leb-true, ltb-true, ltb-false, le-leb, lt-leb, eqb-true, eq-eqb}
 use mir.Syntax.{Width, w64}
 use mir.Val.{SFits, to_z, of_z}
-use mir.Facts.{to_z-of_z}
+use mir.Facts.{to_z-of_z, of_z-to_z, Fits-or, Fits-of_z}
 use Rattle.tree.specs.Ranges.{in_range}
-use Rattle.tree.specs.inner.Places.{from}
-use Rattle.tree.specs.Every.{every}
-use Rattle.tree.proofs.Every.{from_more, same_test}
+use Rattle.tree.proofs.Every.{same_test}
 use Rattle.session.specs.Soundness.{in_limits}
 
 -- ---- the range: its lower end has 64 bits
@@ -75,7 +73,7 @@ zero_test w z back forth f = same_test _ _
     (λ e. zero_in z (sym (to_z-of_z f) ∙ ap (to_z w) (eqb-true (of_z w z) 0 e) ∙ back))
     (λ e. eq-eqb (of_z w z) 0 (ap (of_z w) (only_zero z e) ∙ forth))
 
--- what is joined by `|` is zero where both are
+-- what is joined by `|` is zero where both are, and so of signed numbers
 pub or_none : (a b : ℕ) → eqb (bit_or a b) 0 ≡ (eqb a 0 && eqb b 0)
 or_none a b = same_test _ _
     (λ e.
@@ -85,8 +83,13 @@ or_none a b = same_test _ _
     let p = (and-eq-true_iff (eqb a 0) (eqb b 0)).0 e in
     eq-eqb (bit_or a b) 0 (omega (arith, or_add_and a b, eqb-true a 0 p.0, eqb-true b 0 p.1)))
 
-pub none_more : (test : ℕ → Bool) (k i a b : ℕ) → k ≤ i → eqb a 0 ≡ every (from k test) i → eqb b 0 ≡ test i → eqb (bit_or a b) 0 ≡ every (from k test) (i + 1)
-none_more test k i a b h e f = or_none a b ∙ from_more test k i (eqb a 0) (eqb b 0) h e f
+pub join_zero : (w : Width) (a b : ℤ) → to_z w 0 ≡ pos 0 → of_z w (pos 0) ≡ 0 → SFits w a → SFits w b → SFits w (to_z w (bit_or (of_z w a) (of_z w b)))
+    → in_range 0 (to_z w (bit_or (of_z w a) (of_z w b))) ≡ (in_range 0 a && in_range 0 b)
+join_zero w a b back forth f g h =
+    sym (zero_test w _ back forth h)
+    ∙ ap (λ n. eqb n 0) (of_z-to_z {w = w} (Fits-or {w = w} (Fits-of_z {w = w} f) (Fits-of_z {w = w} g)))
+    ∙ or_none (of_z w a) (of_z w b)
+    ∙ ap₂ ◌&&◌ (zero_test w a back forth f) (zero_test w b back forth g)
 
 -- ---- lease number, messages and cache
 

@@ -1,5 +1,5 @@
 -- How a session starts: fresh and sound, or refused; and loaded as its table is read.
-use mathlib.Core.Path.{◌≡◌, refl, sym, ◌∙◌}
+use mathlib.Core.Path.{◌≡◌, refl, sym, ap, ◌∙◌}
 use mathlib.Core.Bool.{Bool, true, false, cond}
 use mathlib.Core.Logic.{◌≢◌}
 use mathlib.Core.List.{List}
@@ -15,7 +15,12 @@ use Rattle.tree.specs.Parents.{InRule, in_rule}
 use Rattle.tree.specs.declared.Tree.{Tree}
 use Rattle.tree.proofs.Cases.{either}
 use Rattle.tree.proofs.InRule.{in_rule_exactly}
+use Rattle.refusal.specs.declared.Refusal.{Refusal}
+use Rattle.refusal.proofs.Numbers.{numbers_within}
+use Rattle.std.specs.Prelude.{Result, Ok, Err}
 use Rattle.table.specs.Reading.{reading_of}
+use Rattle.table.specs.Told.{Reading, told_reading}
+use Rattle.session.specs.Told.{Started, told_started}
 use Rattle.table.proofs.Tables.{accepted_rule}
 use Rattle.table.proofs.Verdicts.{table_ruled_exactly, reading_accepted}
 use Rattle.session.specs.Holding.{pair_at}
@@ -95,6 +100,13 @@ module _ (s : Session) (bytes : List ℕ) where
   pub loads_not : (reading_of bytes).refusal ≢ 0 → loaded_of s bytes ≡ record { refusal = (reading_of bytes).refusal; session = s }
   unfolding loaded_of
   loads_not d = rw (ne_eqb (reading_of bytes).refusal 0 d)
+
+  -- what starting a session of the tree answers, once its table is read
+  pub loads_as : (t : Tree) → told_reading (Ok t) ≡ reading_of bytes → (x : Result Session Refusal) → told_started zeros x ≡ started_of t → told_started s x ≡ loaded_of s bytes
+  loads_as t e (Ok a) f = f ∙ sym (loads (ap (λ (r : Reading). r.refusal) (sym e)) ∙ ap (λ (r : Reading). started_of r.tree) (sym e))
+  loads_as t e (Err r) f =
+      let rule : InRule t.parents t.count = rw (← e) at (read_rule (ap (λ (r : Reading). r.refusal) (sym e))) in
+      absurd (omega (arith, numbers_within r, ap (λ (y : Started). y.refusal) (f ∙ started t rule)))
 
   -- an accepted load is an accepted table
   pub read_well : (loaded_of s bytes).refusal ≡ 0 → (reading_of bytes).refusal ≡ 0

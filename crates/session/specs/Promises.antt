@@ -2,7 +2,7 @@
 use Rattle.std.specs.Prelude.{◌≡◌, true, List, ◌++◌, ◌↔◌, ℕ, ◌≤◌, ◌<◌, length, take, drop}
 use Rattle.fields.specs.Bits.{Bytes}
 use Rattle.table.specs.Reading.{reading_of, accepted}
-use Rattle.table.specs.declared.Written.{Written}
+use Rattle.table.specs.Told.{Written}
 use Rattle.tree.specs.Parents.{InRule}
 use Rattle.tree.specs.declared.Tree.{Tree}
 use Rattle.session.specs.Holding.{Typed}

@@ -5,7 +5,7 @@ use Rattle.tree.specs.Parents.{in_rule}
 use Rattle.tree.specs.declared.Tree.{Tree}
 use Rattle.session.specs.declared.Pairs.{Pairs}
 use Rattle.session.specs.declared.Session.{Session}
-use Rattle.session.specs.declared.Started.{Started}
+use Rattle.session.specs.Told.{Started}
 
 abbrev pub empty : Pairs
 empty = record { lease = replicate 256 0; cache = replicate 256 (pos 0); messages = replicate 256 0 }

@@ -2,7 +2,7 @@
 use Rattle.std.specs.Prelude.{◌≡◌, true, false, cond, List, ℕ, ◌≤◌, ◌<◌}
 use Rattle.table.specs.Layout.{table_size}
 use Rattle.table.specs.Writing as table
-use Rattle.table.specs.declared.Written.{Written}
+use Rattle.table.specs.Told.{Written}
 use Rattle.session.specs.Soundness.{sound}
 use Rattle.session.specs.declared.Session.{Session}
 

@@ -6,4 +6,5 @@ pub mod Turns
 pub mod Stores
 pub mod Tables
 pub mod RoundTrip
+pub mod Told
 pub mod Outcomes

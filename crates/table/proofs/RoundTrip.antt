@@ -19,8 +19,8 @@ use Rattle.table.specs.Layout.{table_size, count_at}
 use Rattle.table.specs.Reading.{accepted, tree_of, reading_of}
 use Rattle.table.specs.Writing.{table_parts, table_of, Answered, six, nine, done, written_of, output_of}
 use Rattle.table.specs.Promises.{TableExactly, TableReadsBack, TableWritesBack, TableWrittenExactly, RefusedOutputKept}
-use Rattle.table.specs.declared.Reading.{Reading}
-use Rattle.table.specs.declared.Written.{Written}
+use Rattle.table.specs.Told.{Reading}
+use Rattle.table.specs.Told.{Written}
 use Rattle.table.proofs.Verdicts.{table_ruled_exactly, reading_accepted}
 use Rattle.table.proofs.Stores.{table_end}
 use Rattle.table.proofs.Tables.{table_fits, parents_length, accepted_rule, accepted_packs, packed_ruled, packed_tree}

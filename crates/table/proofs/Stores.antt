@@ -1,49 +1,36 @@
 -- What the writer has stored, as it goes through bytes and nodes.
-use mathlib.Core.Path.{◌≡◌, refl, sym, ap, ◌∙◌}
+use mathlib.Core.Path.{◌≡◌, refl, sym, ap, ap₂, ◌∙◌}
 use mathlib.Core.Bool.{true, false}
-use mathlib.Core.List.{List, [], ◌∷◌, ◌++◌}
+use mathlib.Core.List.{List, [], ◌++◌}
 use Prim.Native.Nat.{ℕ, zero, suc, ◌+◌, ◌-◌, ◌*◌, ◌^◌, ◌≤◌, ◌<◌}
-use native.Mathlib.Nat.{not-suc-le-zero, le_of_suc-le-suc, sub-zero, add-zero, zero-add}
-use native.Mathlib.Numerals.{add-one}
+use native.Mathlib.Nat.{add-zero, zero-add}
 use native.Mathlib.Omega.{arith}
-use lib.ListN.{length, set, drop, replicate, length-replicate, length-set, length-append}
+use Rattle.std.proofs.lemmas.List.{length-take-le}
+use lib.ListN.{length, take, drop, replicate, length-replicate, length-append}
 use borrow.Author.Tests.{le-leb, lt-leb}
+use Rattle.std.specs.Prelude.{Ok, Err}
 use Rattle.fields.specs.Fields.{put_field}
 use Rattle.fields.specs.Usable.{put_at}
 use Rattle.fields.proofs.Kept.{length_kept}
 use Rattle.fields.proofs.Rooms.{taken_is_put}
 use Rattle.packed.specs.Parts.{bits_of_parts, put_all}
 use Rattle.packed.proofs.Packing.{front_field, rest_kept}
+use Rattle.refusal.specs.declared.Refusal.TheVariants.{Unsound, NoRoom}
 use Rattle.tree.specs.Parents.{parent, Grown, InRule, in_rule}
 use Rattle.tree.specs.declared.Tree.{Tree}
 use Rattle.tree.proofs.InRule.{in_rule_exactly}
 use Rattle.table.specs.Layout.{long, parent_place, table_size}
+use Rattle.table.specs.Told.{told_written}
 use Rattle.table.specs.Writing.{node_parts, table_parts, table_of, written_of, output_of}
 use Rattle.table.proofs.Widths.{width_exactly, long_le, place_zero, place_suc, place_up, field_near}
 
--- ---- zeros in the first i bytes
+-- ---- the parents of the nodes before i are put: with the rest put too, the bytes are what they are to be
 
-pub record Cleared (out₀ out : List ℕ) (i : ℕ) : Type 0 where
-  pub is : out ≡ replicate i 0 ++ drop i out₀
-  pub same : length out ≡ length out₀
-
-pub none_cleared : (out : List ℕ) → Cleared out out 0
-none_cleared out = record { is = refl; same = refl }
-
-clear_turn : (out : List ℕ) (i : ℕ) → i < length out → set (replicate i 0 ++ drop i out) i 0 ≡ replicate (suc i) 0 ++ drop (suc i) out
-clear_turn [] i h = absurd (not-suc-le-zero h)
-clear_turn (x ∷ xs) zero h = refl
-clear_turn (x ∷ xs) (suc i) h = ap (λ (l : List ℕ). 0 ∷ l) (clear_turn xs i (le_of_suc-le-suc h))
-
-pub one_cleared : (out₀ out : List ℕ) (i : ℕ) → i < length out₀ → Cleared out₀ out i → Cleared out₀ (set out i 0) (i + 1)
-one_cleared out₀ out i h d = record { is = rw (d.is, add-one i) (clear_turn out₀ i h); same = simp length-set d.same }
-
--- ---- the parents of nodes 1 to k are put: with the rest put too, the bytes are what they are to be
-
-pub record Stored (out₀ ps : List ℕ) (n : ℕ) (out : List ℕ) (at k : ℕ) : Type 0 where
-  pub left : k < n
-  pub here : at ≡ parent_place k
-  pub rest : put_all out at (node_parts ps k (n - 1 - k)) ≡ put_all out₀ 9 (node_parts ps 0 (n - 1))
+pub record Stored (out₀ ps : List ℕ) (n : ℕ) (out : List ℕ) (at i : ℕ) : Type 0 where
+  pub some : 1 ≤ i
+  pub left : i ≤ n
+  pub here : at ≡ parent_place (i - 1)
+  pub rest : put_all out at (node_parts ps (i - 1) (n - i)) ≡ put_all out₀ 9 (node_parts ps 0 (n - 1))
   pub same : length out ≡ length out₀
 
 parts_none : (ps : List ℕ) (k m : ℕ) → m ≡ 0 → node_parts ps k m ≡ []
@@ -55,42 +42,48 @@ unfolding put_all node_parts
 parts_next s ps at k m = refl
 
 module _ (out₀ ps : List ℕ) (n : ℕ) (some : 1 ≤ n) (few : n ≤ 256) where
-  pub none_stored : Stored out₀ ps n out₀ 9 0
-  none_stored = record { left = some; here = sym place_zero; rest = rw sub-zero; same = refl }
+  pub none_stored : Stored out₀ ps n out₀ 9 1
+  none_stored = record { some = omega arith; left = some; here = sym place_zero; rest = refl; same = refl }
 
-  module _ (out : List ℕ) (at k : ℕ) (i : Stored out₀ ps n out at k) where
-    pub all_stored : n ≤ k + 1 → out ≡ put_all out₀ 9 (node_parts ps 0 (n - 1))
+  module _ (out : List ℕ) (at i : ℕ) (st : Stored out₀ ps n out at i) where
+    pub all_stored : n ≤ i → out ≡ put_all out₀ 9 (node_parts ps 0 (n - 1))
     unfolding put_all
-    all_stored h = rw (parts_none ps k (n - 1 - k) (omega arith)) at i.rest
+    all_stored h = rw (parts_none ps (i - 1) (n - i) (omega arith)) at st.rest
 
-    module _ (l : k + 1 < n) (w : ℕ) (e : w ≡ long k) where
+    module _ (l : i < n) (w : ℕ) (e : w ≡ long (i - 1)) where
       pub store_near : at + w ≤ 524288
-      store_near = field_near k at w (omega arith) i.here e
+      store_near = field_near (i - 1) at w (omega arith) st.here e
 
-      pub one_stored : Grown ps n → parent_place (n - 1) ≤ 8 * length out₀ → (p : ℕ) → p ≡ parent ps (k + 1) → (out' : List ℕ) → out' ≡ put_at out at w p
-          → Stored out₀ ps n out' (at + w) (k + 1)
-      one_stored grown room p q out' f =
-          rw (add-one k)
-          (record {
+      pub one_stored : Grown ps n → parent_place (n - 1) ≤ 8 * length out₀ → (out' : List ℕ) → out' ≡ put_at out at w (parent ps i)
+          → Stored out₀ ps n out' (at + w) (i + 1)
+      one_stored grown room out' f =
+          record {
+            some = omega arith;
             left = omega arith;
-            here = rw (i.here, e) (sym (place_suc k));
-            rest = ap (λ (x : List ℕ). put_all x (at + w) (node_parts ps (suc k) (n - 1 - suc k))) put ∙ sym next ∙ i.rest;
-            same = ap length put ∙ length_kept out at w p ∙ i.same;
-          })
+            here = rw back (sym (place_suc (i - 1) ∙ rw (← st.here, ← e) refl));
+            rest = ap (λ (x : List ℕ). put_all x (at + w) (node_parts ps (i + 1 - 1) (n - (i + 1)))) put ∙ sym next ∙ st.rest;
+            same = ap length put ∙ length_kept out at w (parent ps i) ∙ st.same;
+          }
         where
-          small : p < 2 ^ w
-          small = rw e (omega (arith, (width_exactly k (omega arith)).0, rw (add-one k) at q, grown (suc k) (omega arith) (omega arith)))
+          back : i + 1 - 1 ≡ suc (i - 1)
+          back = omega (arith, st.some)
 
-          put : out' ≡ put_field out at w p
+          forth : suc (i - 1) ≡ i
+          forth = omega (arith, st.some)
+
+          small : parent ps i < 2 ^ w
+          small = rw e (omega (arith, (width_exactly (i - 1) (omega arith)).0, grown i st.some l))
+
+          put : out' ≡ put_field out at w (parent ps i)
           put =
               f
-              ∙ taken_is_put out at w p (omega (arith, long_le k (omega arith)))
-              (omega (arith, store_near, place_up (suc k) (n - 1) (omega arith), place_suc k, i.here, i.same)) small
+              ∙ taken_is_put out at w (parent ps i) (omega (arith, long_le (i - 1) (omega arith)))
+              (omega (arith, store_near, place_up (suc (i - 1)) (n - 1) (omega arith), place_suc (i - 1), st.here, st.same)) small
 
-          next : put_all out at (node_parts ps k (n - 1 - k)) ≡ put_all (put_field out at w p) (at + w) (node_parts ps (suc k) (n - 1 - suc k))
+          next : put_all out at (node_parts ps (i - 1) (n - i)) ≡ put_all (put_field out at w (parent ps i)) (at + w) (node_parts ps (i + 1 - 1) (n - (i + 1)))
           next =
-              let m : n - 1 - k ≡ suc (n - 1 - suc k) = omega arith in
-              ap (λ (x : ℕ). put_all out at (node_parts ps k x)) m ∙ parts_next out ps at k (n - 1 - suc k) ∙ rw (e, q, add-one k)
+              let m : n - i ≡ suc (n - (i + 1)) = omega arith in
+              ap (λ (x : ℕ). put_all out at (node_parts ps (i - 1) x)) m ∙ parts_next out ps at (i - 1) (n - (i + 1)) ∙ rw (forth, ← e, back, forth) refl
 
 -- ---- where the fields end
 
@@ -109,22 +102,28 @@ table_end t = nodes_total t
 -- ---- the whole
 
 module _ (t : Tree) (out : List ℕ) where
-  pub out_of_rule : in_rule t.parents t.count ≡ false → (record { refusal = 6; bytes = 0 } ≡ written_of t (length out)) × (out ≡ output_of t out)
+  pub out_of_rule : in_rule t.parents t.count ≡ false → (told_written (Err Unsound) ≡ written_of t (length out)) × (out ≡ output_of t out)
   unfolding written_of output_of
   out_of_rule e = (rw e, rw e)
 
-  module _ (e : in_rule t.parents t.count ≡ true) (b : ℕ) (eb : b ≡ table_size t.count) where
+  module _ (e : in_rule t.parents t.count ≡ true) (n : ℕ) (en : n ≡ t.count) (b : ℕ) (eb : b ≡ table_size n) where
     rule : InRule t.parents t.count
     rule = (in_rule_exactly t.parents t.count).0 e
 
-    pub too_short : length out < b → (record { refusal = 9; bytes = 0 } ≡ written_of t (length out)) × (out ≡ output_of t out)
+    size : b ≡ table_size t.count
+    size = rw en at eb
+
+    pub too_short : length out < b → (told_written (Err NoRoom) ≡ written_of t (length out)) × (out ≡ output_of t out)
     unfolding written_of output_of
-    too_short l = (rw (e, ← eb, lt-leb b (length out) l), rw (e, ← eb, lt-leb b (length out) l))
+    too_short l = (rw (e, ← size, lt-leb b (length out) l), rw (e, ← size, lt-leb b (length out) l))
 
     -- the bytes cleared, then the count put
-    module _ (l : b ≤ length out) (out₁ out₂ : List ℕ) (e₁ : out₁ ≡ replicate b 0 ++ drop b out) (e₂ : out₂ ≡ put_at out₁ 0 9 t.count) where
+    module _ (l : b ≤ length out) (front out₂ : List ℕ) (e₁ : front ≡ replicate (length (take b out)) 0) (p : ℕ) (ep : p ≡ t.count) (e₂ : out₂ ≡ put_at (front ++ drop b out) 0 9 p) where
       abbrev zeros : List ℕ
       zeros = replicate b 0
+
+      cleared : front ≡ zeros
+      cleared = rw (← length-take-le b out l) e₁
 
       wide : length zeros ≡ b
       wide = length-replicate {A = ℕ} b 0
@@ -138,25 +137,29 @@ module _ (t : Tree) (out : List ℕ) where
       counted : out₂ ≡ put_field zeros 0 9 t.count ++ drop b out
       counted =
           e₂
-          ∙ ap (λ (x : List ℕ). put_at x 0 9 t.count) e₁
-          ∙ taken_is_put (zeros ++ drop b out) 0 9 t.count (omega arith) (omega (arith, joined, head)) (omega (arith, rule.few))
-          ∙ front_field zeros (drop b out) 0 9 t.count (omega (arith, wide, head))
+          ∙ ap₂ (λ (x : List ℕ) (k : ℕ). put_at (x ++ drop b out) 0 9 k) cleared ep
+          ∙ taken_is_put (zeros ++ drop b out) 0 9 t.count (omega arith) (omega (arith, joined, head, size)) (omega (arith, rule.few))
+          ∙ front_field zeros (drop b out) 0 9 t.count (omega (arith, wide, head, size))
 
       pub room : parent_place (t.count - 1) ≤ 8 * length out₂
-      room = omega (arith, ap length counted ∙ length-append (put_field zeros 0 9 t.count) (drop b out), length_kept zeros 0 9 t.count, wide)
+      room = omega (arith, ap length counted ∙ length-append (put_field zeros 0 9 t.count) (drop b out), length_kept zeros 0 9 t.count, wide, size)
 
-      pub written : (out₃ : List ℕ) → out₃ ≡ put_all out₂ 9 (node_parts t.parents 0 (t.count - 1))
-          → (record { refusal = 0; bytes = b } ≡ written_of t (length out)) × (out₃ ≡ output_of t out)
+      -- what storing the parents needs
+      pub ready : (1 ≤ n) × ((n ≤ 256) × (Grown t.parents n × (parent_place (n - 1) ≤ 8 * length out₂)))
+      ready = rw en (rule.some, (rule.few, (rule.grown, room)))
+
+      pub written : (out₃ : List ℕ) → out₃ ≡ put_all out₂ 9 (node_parts t.parents 0 (n - 1))
+          → (told_written (Ok b) ≡ written_of t (length out)) × (out₃ ≡ output_of t out)
       unfolding written_of output_of
-      written out₃ e₃ = (rw (e, ← eb, le-leb b (length out) l), table ∙ rw (e, ← eb, le-leb b (length out) l))
+      written out₃ e₃ = (rw (e, ← size, le-leb b (length out) l), table ∙ rw (e, ← size, le-leb b (length out) l))
         where
           is : table_of t ≡ put_all (put_field zeros 0 9 t.count) 9 (node_parts t.parents 0 (t.count - 1))
-          is = unfold put_all in rw (table_end t, ← eb)
+          is = unfold put_all in rw (table_end t, ← size)
 
           table : out₃ ≡ table_of t ++ drop b out
           table =
               e₃
-              ∙ ap (λ (x : List ℕ). put_all x 9 (node_parts t.parents 0 (t.count - 1))) counted
+              ∙ ap₂ (λ (x : List ℕ) (k : ℕ). put_all x 9 (node_parts t.parents 0 (k - 1))) counted en
               ∙ rest_kept (put_field zeros 0 9 t.count) (drop b out) 9 (node_parts t.parents 0 (t.count - 1))
-              (omega (arith, length_kept zeros 0 9 t.count, wide, nodes_total t))
+              (omega (arith, length_kept zeros 0 9 t.count, wide, nodes_total t, size))
               ∙ ap (λ (x : List ℕ). x ++ drop b out) (sym is)

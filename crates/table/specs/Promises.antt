@@ -7,7 +7,7 @@ use Rattle.table.specs.Layout.{long}
 use Rattle.table.specs.Format.{Ruled}
 use Rattle.table.specs.Reading.{accepted, refused, reading_of}
 use Rattle.table.specs.Writing.{table_of, Answered, written_of, output_of}
-use Rattle.table.specs.declared.Written.{Written}
+use Rattle.table.specs.Told.{Written}
 
 -- A parent field is as wide as it must be and no wider: k + 1 numbers have room in it, and half as many would be too few.
 abbrev pub WidthExactly : Type 0

@@ -3,7 +3,7 @@ use Rattle.std.specs.Prelude.{cond, ◌&&◌, List, ℕ, zero, suc, ◌-◌, ◌
 use Rattle.packed.specs.Parts.{ends}
 use Rattle.tree.specs.declared.Tree.{Tree}
 use Rattle.table.specs.Layout.{parent_place, count_at, parent_at}
-use Rattle.table.specs.declared.Reading.{Reading}
+use Rattle.table.specs.Told.{Reading}
 
 -- the earlier of two refusals; 0 is none
 abbrev pub first : ℕ → ℕ → ℕ

@@ -4,7 +4,7 @@ use Rattle.packed.specs.Parts.{Part, packed}
 use Rattle.tree.specs.Parents.{parent, in_rule}
 use Rattle.tree.specs.declared.Tree.{Tree}
 use Rattle.table.specs.Layout.{long, table_size}
-use Rattle.table.specs.declared.Written.{Written}
+use Rattle.table.specs.Told.{Written}
 
 -- the parent fields of m nodes from node k + 1 on
 unfoldable pub node_parts : List ℕ → ℕ → ℕ → List Part

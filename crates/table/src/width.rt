@@ -1,10 +1,11 @@
 // How wide the parent fields are.
-ghost use Rattle.std.specs.Prelude.{◌≡◌};
+ghost use Rattle.std.specs.Prelude.{◌≡◌, ◌-◌};
 ghost use Rattle.table.specs.Layout.{long};
 
-// How long k is in binary: the width of the parent field of node k + 1.
-pub fn of_parent(k: usize) -> usize
-    ensures { result ≡ long k }
+// How wide the parent field of a node is: as the node's number less one is long in binary.
+#[tactic(auto, unfolding(crate::specs::Layout::long))]
+pub fn of_parent(child: usize) -> usize
+    ensures { result ≡ long (child - 1) }
 {
-    64 - u64::leading_zeros(k as u64) as usize
+    64 - child.saturating_sub(1).leading_zeros() as usize
 }

@@ -3,7 +3,7 @@ use mathlib.Core.Path.{◌≡◌, refl, ap}
 use mathlib.Core.Bool.{true, false, ◌||◌}
 use mathlib.Core.List.{List}
 use mathlib.Core.Logic.{◌≢◌}
-use Prim.Native.Nat.{ℕ, zero, suc, ◌-◌, ◌<◌, ◌≤◌}
+use Prim.Native.Nat.{ℕ, zero, suc, ◌<◌, ◌≤◌}
 use native.Mathlib.Nat.{not-suc-le-zero, le_refl}
 use native.Mathlib.Omega.{arith}
 use lib.Dec.{eqb}
@@ -22,9 +22,9 @@ below_root ps i = refl
 
 -- the turns of a climb, in any list of parents
 module _ (ps : List ℕ) (i : ℕ) where
-  pub climb_ends : (j : ℕ) → climb ps i 0 j ≡ eqb j i
+  pub climb_ends : (k j : ℕ) → k ≡ 0 → climb ps i k j ≡ eqb j i
   unfolding climb
-  climb_ends j = refl
+  climb_ends k j e = rw e
 
   pub climb_root : (k : ℕ) → climb ps i k 0 ≡ eqb 0 i
   unfolding climb
@@ -37,11 +37,12 @@ module _ (ps : List ℕ) (i : ℕ) where
   climb_meets (suc k) zero e = eq-eqb zero i e
   climb_meets (suc k) (suc j) e = rw (eq-eqb (suc j) i e)
 
-  pub climb_on : (k j : ℕ) → 0 < k → 0 < j → j ≢ i → climb ps i k j ≡ climb ps i (k - 1) (parent ps j)
+  pub climb_on : (m p k j : ℕ) → p ≡ parent ps j → k ≡ suc m → 0 < j → j ≢ i → climb ps i m p ≡ climb ps i k j
   unfolding climb
-  climb_on zero j z h d = absurd (not-suc-le-zero z)
-  climb_on (suc k) zero z h d = absurd (not-suc-le-zero h)
-  climb_on (suc k) (suc j) z h d = let e : suc k - 1 ≡ k = omega arith in rw (ne_eqb (suc j) i d, e)
+  climb_on m p k zero e f h d = absurd (not-suc-le-zero h)
+  climb_on m p k (suc j) e f h d = rw (e, f, ne_eqb (suc j) i d)
+
+pub ruleset climb_turns = (climb_ends, climb_root, climb_meets, climb_on)
 
 module _ (ps : List ℕ) (n : ℕ) (grown : Grown ps n) where
   -- more steps than the node's number find nothing more

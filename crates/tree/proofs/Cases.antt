@@ -1,6 +1,5 @@
--- Proofs by cases: by a decision, by the order of two numbers, by a test that cannot hold.
-use mathlib.Core.Path.{◌≡◌, refl}
-use mathlib.Core.Bool.{Bool, true, false}
+-- Proofs by cases: by a decision, by the order of two numbers.
+use mathlib.Core.Path.{◌≡◌}
 use Prim.Native.Nat.{ℕ, ◌<◌, ◌≤◌}
 use native.Mathlib.Decide.{ℕ_discrete, dec_lt}
 use native.Mathlib.Omega.{arith}
@@ -14,7 +13,3 @@ order a b f g h = either (dec_lt a b) f (λ p. either (ℕ_discrete a b) g (λ q
 
 pub lt_or_le {ℓ} : {X : Type ℓ} (a b : ℕ) → (a < b → X) → (b ≤ a → X) → X
 lt_or_le a b f g = either (dec_lt a b) f (λ p. g (omega arith))
-
-pub never : (b : Bool) → (b ≡ true → ⊥) → b ≡ false
-never true f = absurd (f refl)
-never false f = refl

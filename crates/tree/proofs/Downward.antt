@@ -10,7 +10,7 @@ use native.Mathlib.Omega.{arith}
 use lib.Dec.{eqb, ltb, leb}
 use lib.ListN.{get_or, set}
 use borrow.Author.Tests.{eqb-true, lt-ltb, le-ltb, le-leb, lt-leb, eq-eqb, ne_eqb, not-true}
-use Rattle.tree.specs.Parents.{parent, Grown, child}
+use Rattle.tree.specs.Parents.{parent, Grown, InRule, child}
 use Rattle.tree.specs.Sides.{below, adjacent, side}
 use Rattle.tree.specs.Operation.{pick, aggregate, plus}
 use Rattle.tree.specs.Sizes.{size_below, ones, listed}
@@ -21,7 +21,7 @@ use Rattle.tree.proofs.Children.{child_is, child_low}
 use Rattle.tree.proofs.Toward.{adjacent_ne}
 use Rattle.tree.proofs.SideLaw.{fan}
 use Rattle.tree.proofs.Sizes.{all_ones}
-use Rattle.tree.proofs.Listed.{listed_read, listed_set}
+use Rattle.tree.proofs.Listed.{listed_read, listed_same, listed_set}
 
 larger_neighbour : (ps : List ℕ) (i w : ℕ) → (adjacent ps w i && ltb i w) ≡ child ps i w
 larger_neighbour ps i w = lt_or_le i w
@@ -80,10 +80,10 @@ module _ (ps : List ℕ) (n : ℕ) (grown : Grown ps n) where
       (λ m. rw (child_low ps d w m) (and-false (leb c w))))) ∙ sym (below_law d h))
 
   -- and at last so do all entries: those of no node hold nothing.
-  pub held_last : (i : ℕ) → held ps n 1 i ≡ size_below ps n i
-  held_last i = lt_or_le i n
-      (λ l. held_all 1 i (omega arith) l)
-      (λ l. let a = zeros plus (λ w. pick plus (leb 1 w && child ps i w) (size_below ps n w)) n (λ w k. rw (child_low ps i w (omega arith), and-false (leb 1 w))) in
+  pub held_last : (c i : ℕ) → c ≤ 1 → held ps n c i ≡ size_below ps n i
+  held_last c i e = lt_or_le i n
+      (λ l. held_all c i (omega arith) l)
+      (λ l. let a = zeros plus (λ w. pick plus (leb c w && child ps i w) (size_below ps n w)) n (λ w k. rw (child_low ps i w (omega arith), and-false (leb c w))) in
       let b = zeros plus (λ j. pick plus (below ps i j) 1) n (λ j k. rw (below_lt ps n grown i j k (omega arith))) in
       rw (le-ltb i n l) (omega (arith, a, b)))
 
@@ -130,29 +130,38 @@ module _ (ps : List ℕ) (n : ℕ) (grown : Grown ps n) where
         (λ o. rw (ne_eqb w d o) (later p w o))) in
         omega (arith, out, rest, held_all (suc d) d (omega arith) h)
 
--- the turn as a loop makes it: c is the next node's number and one more, p its parent, l what is held
-module _ (ps : List ℕ) (n : ℕ) (small : n ≤ 256) (grown : Grown ps n) (l : List ℕ) (c p : ℕ) (z : 1 < c) (h : c ≤ n)
-    (now : l ≡ listed (held ps n c) 256) (is : p ≡ parent ps (c - 1)) where
-  pub parent_inside : p < c - 1
-  parent_inside = omega (arith, grown (c - 1) (omega arith) (omega arith), is)
+-- the pass as a loop makes it: how it begins and ends,
+module _ (ps : List ℕ) (n : ℕ) (r : InRule ps n) where
+  pub pass_starts : (m : ℕ) → m ≡ n → listed (ones m) 256 ≡ listed (held ps n m) 256
+  pass_starts m e = listed_same (ones m) (held ps n m) 256 (λ i l. sym (rw e (held_first ps n r.grown i)))
 
-  reads : (i : ℕ) → i < n → get_or l i 0 ≡ held ps n c i
-  reads i k = ap (λ s. get_or s i 0) now ∙ listed_read (held ps n c) 256 i (omega arith)
+  pub pass_ends : (c : ℕ) → c ≤ 1 → listed (held ps n c) 256 ≡ listed (size_below ps n) 256
+  pass_ends c e = listed_same (held ps n c) (size_below ps n) 256 (λ i l. held_last ps n r.grown c i e)
 
-  next_is : suc (c - 1) ≡ c
-  next_is = omega arith
+  -- and its turn, in which c is the next node's number and one more, p its parent, l what is held
+  module _ (l : List ℕ) (c p : ℕ) (z : 1 < c) (h : c ≤ n) (now : l ≡ listed (held ps n c) 256) (is : p ≡ parent ps (c - 1)) where
+    parent_inside : p < c - 1
+    parent_inside = omega (arith, r.grown (c - 1) (omega arith) (omega arith), is)
 
-  passed : held ps n (c - 1) p ≡ get_or l p 0 + get_or l (c - 1) 0
-  passed =
-      ap (held ps n (c - 1)) is
-      ∙ turn_parent ps n grown (c - 1) (omega arith) (omega arith) ∙ ap (λ m. held ps n m (parent ps (c - 1)) + held ps n m (c - 1)) next_is
-      ∙ ap₂ ◌+◌ (ap (held ps n c) (sym is) ∙ sym (reads p (omega (arith, parent_inside)))) (sym (reads (c - 1) (omega arith)))
+    reads : (i : ℕ) → i < n → get_or l i 0 ≡ held ps n c i
+    reads i k = ap (λ s. get_or s i 0) now ∙ listed_read (held ps n c) 256 i (omega (arith, r.few))
 
-  pub sum_most : get_or l p 0 + get_or l (c - 1) 0 ≤ n
-  sum_most = omega (arith, passed, held_most ps n grown (c - 1) p (omega (arith, parent_inside)))
+    next_is : suc (c - 1) ≡ c
+    next_is = omega arith
 
-  pub pass_turn : set l p (get_or l p 0 + get_or l (c - 1) 0) ≡ listed (held ps n (c - 1)) 256
-  pass_turn =
-      ap (λ s. set s p (get_or l p 0 + get_or l (c - 1) 0)) now
-      ∙ listed_set (held ps n c) (held ps n (c - 1)) 256 p (get_or l p 0 + get_or l (c - 1) 0) (omega (arith, parent_inside)) passed
-      (λ i k d. ap (λ m. held ps n m i) (sym next_is) ∙ turn_else ps n grown (c - 1) (omega arith) (omega arith) i (λ o. d (o ∙ sym is)))
+    passed : held ps n (c - 1) p ≡ get_or l p 0 + get_or l (c - 1) 0
+    passed =
+        ap (held ps n (c - 1)) is
+        ∙ turn_parent ps n r.grown (c - 1) (omega arith) (omega arith) ∙ ap (λ m. held ps n m (parent ps (c - 1)) + held ps n m (c - 1)) next_is
+        ∙ ap₂ ◌+◌ (ap (held ps n c) (sym is) ∙ sym (reads p (omega (arith, parent_inside)))) (sym (reads (c - 1) (omega arith)))
+
+    pub sum_most : get_or l p 0 + get_or l (c - 1) 0 ≤ n
+    sum_most = omega (arith, passed, held_most ps n r.grown (c - 1) p (omega (arith, parent_inside)))
+
+    pub pass_turn : set l p (get_or l p 0 + get_or l (c - 1) 0) ≡ listed (held ps n (c - 1)) 256
+    pass_turn =
+        ap (λ s. set s p (get_or l p 0 + get_or l (c - 1) 0)) now
+        ∙ listed_set (held ps n c) (held ps n (c - 1)) 256 p (get_or l p 0 + get_or l (c - 1) 0) (omega (arith, parent_inside, r.few)) passed
+        (λ i k d. ap (λ m. held ps n m i) (sym next_is) ∙ turn_else ps n r.grown (c - 1) (omega arith) (omega arith) i (λ o. d (o ∙ sym is)))
+
+pub ruleset pass_laws = (pass_starts, pass_ends, sum_most, pass_turn)

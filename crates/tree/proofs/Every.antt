@@ -20,6 +20,10 @@ module _ (test : ℕ → Bool) where
   unfolding every
   every_more i h e = rw add-one (ap₂ ◌&&◌ h e)
 
+  pub every_next : (i : ℕ) → every test (i + 1) ≡ (every test i && test i)
+  unfolding every
+  every_next i = rw add-one
+
   pub every_fails : (i n : ℕ) → i < n → test i ≡ false → every test n ≡ false
   unfolding every
   every_fails i zero h e = absurd (not-suc-le-zero h)

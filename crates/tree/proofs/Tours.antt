@@ -8,13 +8,14 @@ use native.Mathlib.Decide.{ℕ_discrete}
 use native.Mathlib.Omega.{arith}
 use lib.Dec.{eqb}
 use borrow.Author.Tests.{eqb-false, eq-eqb, ne_eqb, not-true}
+use Rattle.std.proofs.lemmas.Bool.{false_from_ne_true}
 use Rattle.tree.specs.Parents.{Grown}
 use Rattle.tree.specs.Sides.{adjacent, side, other}
 use Rattle.tree.specs.Sizes.{size}
 use Rattle.tree.specs.Kept.{when, kept}
 use Rattle.tree.specs.inner.Tours.{onward, visit, tour, Closed, OfItsPair}
 use Rattle.tree.specs.Promises.{VisitedOnce, CountIsEnough}
-use Rattle.tree.proofs.Cases.{either, never}
+use Rattle.tree.proofs.Cases.{either}
 use Rattle.tree.proofs.Toward.{adjacent_ne, adjacent_sym, complementary, next, unique, self, not_own, own, nested}
 use Rattle.tree.proofs.Sizes.{sizes_add, size_least, size_less}
 use Rattle.tree.proofs.Paths.{edge, through}
@@ -72,7 +73,7 @@ module _ (ps : List ℕ) (n : ℕ) (grown : Grown ps n) (go : ℕ → ℕ → Bo
         ∙ last (not (eqb v k)) refl (go k u) refl
       where
         away : (w : ℕ) → adjacent ps w u ≡ true → w ≢ k → side ps w u a ≡ false
-        away w i o = never (side ps w u a) (λ t. o (unique ps n grown u w k a hu ha i ak t sk))
+        away w i o = false_from_ne_true (side ps w u a) (λ t. o (unique ps n grown u w k a hu ha i ak t sk))
 
         last : (q : Bool) → not (eqb v k) ≡ q → (z : Bool) → go k u ≡ z
             → when (other ps u v k && go k u) (F k) ≡ when (q && ((side ps b a u && adjacent ps b a) && go a b)) Z
@@ -81,7 +82,7 @@ module _ (ps : List ℕ) (n : ℕ) (grown : Grown ps n) (go : ℕ → ℕ → Bo
           ak,
           e,
           p,
-          never ((side ps b a u && adjacent ps b a) && go a b) (λ j.
+          false_from_ne_true ((side ps b a u && adjacent ps b a) && go a b) (λ j.
               let m = (and-eq-true_iff (side ps b a u && adjacent ps b a) (go a b)).0 j in
               let i = (and-eq-true_iff (side ps b a u) (adjacent ps b a)).0 m.0 in
               true≢false (sym (through ps n grown go closed k u a b hk hu ha hb ak i.1 i.0 sk m.1) ∙ p)),
@@ -101,7 +102,7 @@ module _ (ps : List ℕ) (n : ℕ) (grown : Grown ps n) (go : ℕ → ℕ → Bo
         ne_eqb b v p,
         e,
         own ps n grown u v hu c,
-        never (side ps b u v && adjacent ps b u) (λ t.
+        false_from_ne_true (side ps b u v && adjacent ps b u) (λ t.
             let q = (and-eq-true_iff (side ps b u v) (adjacent ps b u)).0 t in
             p (unique ps n grown u b v v hu hv q.1 c q.0 vv)),
       )))

@@ -1,88 +1,69 @@
 // Neighbours, and the way to the root.
-ghost use Rattle.std.specs.Prelude.{◌≡◌, length};
-ghost use Rattle.tree.specs.Parents as specs;
-ghost use Rattle.tree.specs.Sides as sides;
+ghost use Rattle.std.specs.Prelude.{◌≡◌};
+ghost use Rattle.tree.specs.Parents.{parent};
+ghost use Rattle.tree.specs.Sides.{below, nodes, is_below, adjacent, neighbours};
 
-// Whether u and w are nodes with an edge between them.
-pub fn neighbours(count: usize, parents: &[u8; 256], u: usize, w: usize) -> bool
-    requires { length parents.now ≡ 256 }
-    ensures { result ≡ sides.neighbours parents.now count u w }
-{
-    if nodes(count, u, w) {
-        return adjacent(parents, u, w);
-    }
-    false
-}
+use crate::Tree;
 
-// Whether i and j are nodes, and j is i or below it.
-pub fn is_below(count: usize, parents: &[u8; 256], i: usize, j: usize) -> bool
-    requires { length parents.now ≡ 256 }
-    ensures { result ≡ sides.is_below parents.now count i j }
-{
-    if nodes(count, i, j) {
-        return climbs(parents, i, j);
+impl Tree {
+    // Whether u and w are neighbours.
+    #[tactic(auto, unfolding(crate::specs::Sides::neighbours))]
+    pub fn neighbours(&self, u: usize, w: usize) -> bool
+        ensures { result ≡ neighbours self.now.parents self.now.count u w }
+    {
+        self.has(u, w) && self.adjacent(u, w)
     }
-    false
-}
 
-// Whether u and w are both nodes.
-pub fn nodes(count: usize, u: usize, w: usize) -> bool
-    ensures { result ≡ sides.nodes count u w }
-{
-    if u < count {
-        return w < count;
+    // Whether node j is node i or below it.
+    #[tactic(auto, unfolding(crate::specs::Sides::is_below))]
+    pub fn is_below(&self, i: usize, j: usize) -> bool
+        ensures { result ≡ is_below self.now.parents self.now.count i j }
+    {
+        self.has(i, j) && self.climbs(i, j)
     }
-    false
-}
 
-// Whether of u and w the smaller is the parent of the larger.
-pub fn adjacent(parents: &[u8; 256], u: usize, w: usize) -> bool
-    requires { length parents.now ≡ 256 }
-    ensures { result ≡ sides.adjacent parents.now u w }
-{
-    if u < w {
-        return parent(parents, w) == u;
+    // Whether u and w are both nodes.
+    #[tactic(auto, unfolding(crate::specs::Sides::nodes))]
+    fn has(&self, u: usize, w: usize) -> bool
+        ensures { result ≡ nodes self.now.count u w }
+    {
+        let count = usize::from(self.count);
+        u < count && w < count
     }
-    if w < u {
-        return parent(parents, u) == w;
-    }
-    false
-}
 
-// Climbs from j until it meets i or the root, or has taken as many steps as j is large.
-pub fn climbs(parents: &[u8; 256], i: usize, j: usize) -> bool
-    requires { length parents.now ≡ 256 }
-    ensures { result ≡ sides.below parents.now i j }
-{
-    let mut at = j;
-    let mut left = j;
-    while 0 < left {
-        if at == i {
-            return true;
+    // Whether of u and w the smaller is the parent of the larger.
+    fn adjacent(&self, u: usize, w: usize) -> bool
+        ensures { result ≡ adjacent self.now.parents u w }
+    {
+        if u < w {
+            self.parent(w) == u
+        } else {
+            w < u && self.parent(u) == w
         }
-        if at == 0 {
-            return false;
+    }
+
+    // Climbs from j until it meets i or the root, or has taken as many steps as j is large.
+    #[tactic(auto, using(crate::proofs::Below::climb_turns), unfolding(crate::specs::Sides::below))]
+    fn climbs(&self, i: usize, j: usize) -> bool
+        ensures { result ≡ below self.now.parents i j }
+    {
+        let mut at = j;
+        for _ in 0..j {
+            if at == i {
+                return true;
+            }
+            if at == 0 {
+                return false;
+            }
+            at = self.parent(at);
         }
-        at = parent(parents, at);
-        left -= 1;
+        at == i
     }
-    at == i
-}
 
-// The parent of node i, 0 where there is no entry.
-pub fn parent(parents: &[u8; 256], i: usize) -> usize
-    requires { length parents.now ≡ 256 }
-    ensures { result ≡ specs.parent parents.now i }
-{
-    if i < 256 {
-        return node(parents[i]);
+    // The parent of node i, 0 where there is no entry.
+    fn parent(&self, i: usize) -> usize
+        ensures { result ≡ parent self.now.parents i }
+    {
+        self.parents.get(i).map_or(0, |p| usize::from(*p))
     }
-    0
-}
-
-// A node's number as an index.
-pub fn node(x: u8) -> usize
-    ensures { result ≡ x }
-{
-    x as usize
 }

@@ -1,12 +1,8 @@
 -- Two's complement in a field of w bits.
-use Rattle.std.specs.Prelude.{ℕ, suc, ◌-◌, ◌^◌, Bool, cond, ◌&&◌, leb, ltb, ℤ, pos, negsuc}
+use Rattle.std.specs.Prelude.{ℕ, suc, ◌-◌, ◌^◌, Bool, cond, ◌&&◌, leb, ltb, ℤ, pos, negsuc, Result, Ok, Err}
 use Rattle.std.specs.Int.Signed.{mag}
-use Rattle.twos.specs.declared.Encoded.{Encoded}
-use Rattle.twos.specs.declared.Encoded.TheVariants as encoding
-use Rattle.twos.specs.declared.Decoded.{Decoded}
-use Rattle.twos.specs.declared.Decoded.TheVariants as decoding
-use Rattle.twos.specs.declared.Decoded32.{Decoded32}
-use Rattle.twos.specs.declared.Decoded32.TheVariants as decoding32
+use Rattle.refusal.specs.declared.Refusal.{Refusal}
+use Rattle.refusal.specs.declared.Refusal.TheVariants.{Misfit}
 
 -- the number that stands for z; negsuc n is -1 - n
 abbrev pub twos : ℕ → ℤ → ℕ
@@ -32,29 +28,16 @@ encodes w z = wide w && within w z
 unfoldable pub decodes : ℕ → ℕ → Bool
 decodes w n = wide w && ltb n (2 ^ w)
 
-unfoldable pub encoded : ℕ → ℤ → Encoded
-encoded w z = cond (encodes w z) (encoding.Number (twos w z)) encoding.Misfit
+unfoldable pub encoded : ℕ → ℤ → Result ℕ Refusal
+encoded w z = cond (encodes w z) (Ok (twos w z)) (Err Misfit)
 
-unfoldable pub decoded : ℕ → ℕ → Decoded
-decoded w n = cond (decodes w n) (decoding.Value (signed w n)) decoding.Misfit
+unfoldable pub decoded : ℕ → ℕ → Result ℤ Refusal
+decoded w n = cond (decodes w n) (Ok (signed w n)) (Err Misfit)
 
 -- the value of a number as an i32, where it fits one
-abbrev pub narrowed : Decoded → Decoded32
-narrowed (decoding.Value z) = cond (within 32 z) (decoding32.Value z) decoding32.Misfit
-narrowed decoding.Misfit = decoding32.Misfit
+abbrev pub narrowed : Result ℤ Refusal → Result ℤ Refusal
+narrowed (Ok z) = cond (within 32 z) (Ok z) (Err Misfit)
+narrowed (Err r) = Err r
 
-unfoldable pub decoded32 : ℕ → ℕ → Decoded32
+unfoldable pub decoded32 : ℕ → ℕ → Result ℤ Refusal
 decoded32 w n = narrowed (decoded w n)
-
--- document 01's number for what was answered, and the value: 11 is a value that does not fit. Document 01 says so of the log's 40 bits; at other widths it is the same fault.
-abbrev pub told_encoded : Encoded → ℕ × ℕ
-told_encoded (encoding.Number n) = (0, n)
-told_encoded encoding.Misfit = (11, 0)
-
-abbrev pub told_decoded : Decoded → ℕ × ℤ
-told_decoded (decoding.Value z) = (0, z)
-told_decoded decoding.Misfit = (11, pos 0)
-
-abbrev pub told_decoded32 : Decoded32 → ℕ × ℤ
-told_decoded32 (decoding32.Value z) = (0, z)
-told_decoded32 decoding32.Misfit = (11, pos 0)

@@ -8,66 +8,44 @@ mod sign; // a number and its sign
 ghost use Rattle.std.specs.Prelude.{◌≡◌};
 ghost use Rattle.twos.specs.Twos.{encoded, decoded, decoded32};
 
-// What a signed value is in a field of so many bits.
-#[derive(Clone, Copy)]
-pub enum Encoded {
-    Number(u64),
-    // the value has no place in the field, or the field is not 1 to 64 bits wide
-    Misfit,
-}
+use refusal::Refusal;
 
-// What the number in a field of so many bits stands for.
-#[derive(Clone, Copy)]
-pub enum Decoded {
-    Value(i64),
-    // the field has no such number, or is not 1 to 64 bits wide
-    Misfit,
-}
-
-// What the number in a field of so many bits stands for, as an i32.
-#[derive(Clone, Copy)]
-pub enum Decoded32 {
-    Value(i32),
-    // the field has no such number, or is not 1 to 64 bits wide, or the value has no place in an i32
-    Misfit,
-}
-
-// The number that stands for value in a field of width bits, two's complement.
-pub fn encode(value: i64, width: usize) -> Encoded
+// The number that stands for value in a field of width bits, two's complement. Refusal: 11 the value has
+// no place in the field, or the field is not 1 to 64 bits wide.
+#[tactic(auto, unfolding(crate::specs::Twos::encoded), using(crate::proofs::Misfits::encodes_is))]
+pub fn encode(value: i64, width: usize) -> Result<u64, Refusal>
     ensures { result ≡ encoded width value }
 {
     if sign::encodes(width, value) {
-        return Encoded::Number(sign::number(width, value));
+        return Ok(sign::number(width, value));
     }
-    Encoded::Misfit
+    Err(Refusal::Misfit)
 }
 
-// The number that stands for an i32 in a field of width bits, two's complement.
-pub fn encode32(value: i32, width: usize) -> Encoded
+// The number that stands for an i32 in a field of width bits, two's complement. Refusal: as of `encode`.
+pub fn encode32(value: i32, width: usize) -> Result<u64, Refusal>
     ensures { result ≡ encoded width value }
 {
-    encode(value as i64, width)
+    encode(i64::from(value), width)
 }
 
-// The value that number stands for in a field of width bits, two's complement.
-pub fn decode(number: u64, width: usize) -> Decoded
+// The value that number stands for in a field of width bits, two's complement. Refusal: 11 the field has
+// no such number, or is not 1 to 64 bits wide.
+#[tactic(auto, unfolding(crate::specs::Twos::decoded), using(crate::proofs::Misfits::decodes_is))]
+pub fn decode(number: u64, width: usize) -> Result<i64, Refusal>
     ensures { result ≡ decoded width number }
 {
     if sign::decodes(width, number) {
-        return Decoded::Value(sign::value(width, number));
+        return Ok(sign::value(width, number));
     }
-    Decoded::Misfit
+    Err(Refusal::Misfit)
 }
 
-// The i32 that number stands for in a field of width bits, two's complement.
-pub fn decode32(number: u64, width: usize) -> Decoded32
+// The i32 that number stands for in a field of width bits, two's complement. Refusals: those of `decode`,
+// and 11 where the value has no place in an i32.
+#[tactic(auto, unfolding(crate::specs::Twos::decoded32))]
+pub fn decode32(number: u64, width: usize) -> Result<i32, Refusal>
     ensures { result ≡ decoded32 width number }
 {
-    let Decoded::Value(value) = decode(number, width) else {
-        return Decoded32::Misfit;
-    };
-    if sign::magnitude(value) < 2147483648 {
-        return Decoded32::Value(value as i32);
-    }
-    Decoded32::Misfit
+    i32::try_from(decode(number, width)?).or(Err(Refusal::Misfit))
 }

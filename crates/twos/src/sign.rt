@@ -5,23 +5,19 @@ ghost use Rattle.twos.specs.Twos.{twos, signed};
 ghost use Rattle.twos.specs.Twos;
 
 // Whether a field of width bits has a number for value.
+#[tactic(auto, unfolding(crate::specs::Twos::encodes), using(crate::proofs::Misfits::wide_is))]
 pub fn encodes(width: usize, value: i64) -> bool
     ensures { result ≡ Twos.encodes width value }
 {
-    if wide(width) {
-        return magnitude(value) < half_of(width);
-    }
-    false
+    wide(width) && magnitude(value) < half_of(width)
 }
 
 // Whether number stands for a value in a field of width bits.
+#[tactic(auto, unfolding(crate::specs::Twos::decodes), using(crate::proofs::Misfits::wide_is, crate::proofs::Signs::halved))]
 pub fn decodes(width: usize, number: u64) -> bool
     ensures { result ≡ Twos.decodes width number }
 {
-    if wide(width) {
-        return number / 2 < half_of(width);
-    }
-    false
+    wide(width) && number / 2 < half_of(width)
 }
 
 // The number for a value that has one.
@@ -38,6 +34,7 @@ pub fn number(width: usize, value: i64) -> u64
 }
 
 // The value that a number of the field stands for.
+#[tactic(auto, using(crate::proofs::Signs::signed_high))]
 pub fn value(width: usize, number: u64) -> i64
     requires { (0 < width) × (width ≤ 64) × (number < 2 ^ width) }
     ensures { result ≡ signed width number }
@@ -75,11 +72,9 @@ fn below_zero(n: u64) -> i64
     -1 - (n as i64)
 }
 
+#[tactic(auto, unfolding(crate::specs::Twos::wide))]
 fn wide(width: usize) -> bool
     ensures { result ≡ Twos.wide width }
 {
-    if width < 1 {
-        return false;
-    }
-    width <= 64
+    (1..=64).contains(&width)
 }

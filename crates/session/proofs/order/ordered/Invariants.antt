@@ -6,9 +6,8 @@ use Rattle.tree.specs.Every.{every}
 use Rattle.session.specs.inner.Passes.{highs, lows, ordered_at}
 use Rattle.session.proofs.order.ordered.Given as goal
 
-abbrev pub invariant-loop-k : goal.invariant-loop-k
-invariant-loop-k l =
-    (l.k ≤ l.n - 1) × ((l.high ≡ highs l.parents l.up l.down l.k) × ((l.low ≡ lows l.parents l.up l.down l.k) × (every (ordered_at l.parents l.up l.down) l.k ≡ true)))
-
-abbrev pub decreases-loop-k : goal.decreases-loop-k
-decreases-loop-k l = l.n - l.k
+abbrev pub invariant-loop-child : goal.invariant-loop-child
+invariant-loop-child l =
+    let k = l.child - 1 in
+    (1 ≤ l.child)
+    × ((l.high ≡ highs l.tree.parents l.up l.down k) × ((l.low ≡ lows l.tree.parents l.up l.down k) × (every (ordered_at l.tree.parents l.up l.down) k ≡ true)))

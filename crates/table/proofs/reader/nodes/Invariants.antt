@@ -1,10 +1,7 @@
--- `reader::nodes` meets its contract: nodes 1 to k are read and right, and each return is a verdict of the format.
-use Prim.Native.Nat.{◌-◌}
+-- `reader::nodes` meets its contract: the nodes before a child are read and right.
+use mathlib.Core.Path.{◌≡◌}
 use Rattle.table.proofs.Turns.{Standing}
 use Rattle.table.proofs.reader.nodes.Given as goal
 
-abbrev pub invariant-loop-k : goal.invariant-loop-k
-invariant-loop-k l = Standing l.bytes l.count l.parents l.place l.k
-
-abbrev pub decreases-loop-k : goal.decreases-loop-k
-decreases-loop-k l = l.count - l.k
+abbrev pub invariant-loop-child : goal.invariant-loop-child
+invariant-loop-child l = (l.tree.count ≡ l.count) × Standing l.bytes l.count l.tree.parents l.place l.child
