@@ -11,7 +11,9 @@ use Rattle.requests.specs.Lists.{Sized, AllSized, one_if_combine, combines_in}
 use Rattle.requests.specs.Reading.{item_at, told, Hands, requests_of}
 use Rattle.requests.specs.declared.Request.{Request}
 use Rattle.requests.specs.declared.Request.TheVariants.{Combine, Write}
-use Rattle.requests.specs.declared.Item.TheVariants.{Found, Short}
+use Rattle.std.specs.Prelude.{Ok, Err}
+use Rattle.refusal.specs.declared.Refusal.{Refusal}
+use Rattle.refusal.proofs.Numbers.{numbers_within}
 use Rattle.requests.proofs.Items.{item_exactly}
 use Rattle.requests.proofs.Runs.{read_sized, counts_right}
 use Rattle.requests.proofs.Handing.{handed_out}
@@ -103,8 +105,8 @@ module _ {s : Session} {list : List ℕ} {answers : List ℤ} {log : List ℕ} {
     abbrev rest : List Request
     rest = ahead.1
 
-    pub never_short : item_at list at ≡ Short → ⊥
-    never_short e = omega (arith, ap (λ (t : ℕ × List (Request × ℕ)). t.0) (sym ahead.4 ∙ ap told e))
+    pub never_short : (r : Refusal) → item_at list at ≡ Err r → ⊥
+    never_short r e = omega (arith, ap (λ (t : ℕ × List (Request × ℕ)). t.0) (sym ahead.4 ∙ ap told e), (numbers_within r).0)
 
     pub addable : (r : Request) {v : Served} {k : ℕ} → v ≡ in_turn r o → k ≡ one_if_combine r → Addable o.totals k v.outcome
     addable r served e =
@@ -117,7 +119,7 @@ module _ {s : Session} {list : List ℕ} {answers : List ℤ} {log : List ℕ} {
           at_most_510 = (at_most_510 o.session r (length o.log) o.totals.next).0;
         })
 
-    module _ {r : Request} {next : ℕ} (found : item_at list at ≡ Found r next) where
+    module _ {r : Request} {next : ℕ} (found : item_at list at ≡ Ok (r, next)) where
       it_is : (u.due ≡ r ∷ rest) × Hands list next rest
       it_is =
           let a = (item_exactly list at next r).0 (ap told found) in

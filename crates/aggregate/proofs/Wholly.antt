@@ -10,7 +10,7 @@ use lib.IntN.{ℤ}
 use lib.ListN.{length}
 use borrow.Author.Tests.{eq-eqb, ne_eqb, le-leb, lt-leb, leb-true}
 use Rattle.requests.specs.Reading.{judged_of}
-use Rattle.requests.specs.declared.Judged.{Judged}
+use Rattle.requests.specs.Told.{Judged}
 use Rattle.requests.proofs.Refusals.{accepted, list_ruled_exactly, judged_whole}
 use Rattle.session.specs.Soundness.{sound, Sound}
 use Rattle.session.specs.declared.Session.{Session}

@@ -108,10 +108,7 @@ pub fn run(
         × (log.new ≡ run_log_of session list.now answers.old log.old place)
         × (refusal_in result ≡ list_refusal session list.now (length answers.old)) }
 {
-    let judged = requests::judge(list);
-    if judged.refusal != 0 {
-        return Err(Refusal::Short);
-    }
+    let judged = requests::judge(list)?;
     if answers.len() < judged.combines {
         return Err(Refusal::FewAnswers);
     }

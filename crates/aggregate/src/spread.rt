@@ -69,7 +69,18 @@ fn spread(
     let mut k = links.first(&session.tree, u);
     while k < count {
         let w = links::turn(count, u, k);
-        sum = tell(session, links, later, trace, u, from, told, left - 1, w, sum);
+        sum = tell(
+            session,
+            links,
+            later,
+            trace,
+            u,
+            from,
+            told,
+            left - 1,
+            w,
+            sum,
+        );
         k = links.next(&session.tree, u, k);
     }
 }

@@ -7,7 +7,7 @@ ghost use Rattle.aggregate.specs.inner.Turns.{Starting, HasPlace, Addable};
 
 use crate::links::Links;
 use crate::{Outcome, Ran, Stop, Totals, act, serve};
-use requests::{Item, Request};
+use requests::Request;
 use session::Session;
 use trace::Trace;
 
@@ -39,7 +39,7 @@ pub fn whole(
     };
     for index in 0..count {
         // An accepted list has every request: none is short.
-        let Item::Found(request, after) = requests::request_at(list, at) else {
+        let Ok((request, after)) = requests::request_at(list, at) else {
             return Ran {
                 stopped: None,
                 totals,

@@ -14,9 +14,11 @@ use Rattle.messages.specs.Records.{bits_of, fits, Sized, AllSized, coded}
 use Rattle.messages.specs.Reading.{decoded}
 use Rattle.messages.specs.Writing.{recorded_of, log_after, bits_of_all}
 use Rattle.messages.specs.declared.Message.{Message}
-use Rattle.messages.specs.declared.Recorded.{Recorded}
+use Rattle.std.specs.Prelude.{Result}
+use Rattle.std.specs.Result.{result_unwrap_or}
+use Rattle.refusal.specs.declared.Refusal.{Refusal}
 use Rattle.trace.specs.declared.Trace.{Trace}
-use Rattle.trace.specs.inner.Traces.{trace, pushed, pushed_all, messages_in, messages_of, Writing, writing, placed, noted, noted_all}
+use Rattle.trace.specs.inner.Traces.{trace, pushed, pushed_all, messages_in, messages_of, Writing, writing, noted, noted_all}
 use Rattle.trace.specs.Promises.{TraceHolds}
 use Rattle.messages.proofs.Coding.{coded_back}
 use Rattle.messages.proofs.Stretches.{bits_append}
@@ -33,7 +35,7 @@ module _ (ns : List ℕ) (i : ℕ) (m : Message) (next : m ≡ decoded (get_or n
   unfolding messages_in bits_of_all
   bits_next bits w e f = rw (add-one, e, f, next) (omega (arith, bits_append (messages_in ns i) (decoded (get_or ns i 0) ∷ [])))
 
-  pub noted_next : (w : Writing) {s s' : List ℕ} {at at' : ℕ} {x : Recorded} → writing s at ≡ noted_all (messages_in ns i) w → x ≡ recorded_of (length s) at m → s' ≡ log_after s at m → at' ≡ placed x at
+  pub noted_next : (w : Writing) {s s' : List ℕ} {at at' : ℕ} {x : Result ℕ Refusal} → writing s at ≡ noted_all (messages_in ns i) w → x ≡ recorded_of (length s) at m → s' ≡ log_after s at m → at' ≡ result_unwrap_or x at
       → writing s' at' ≡ noted_all (messages_in ns (i + 1)) w
   unfolding messages_in
   noted_next w {s} {s'} {at} {at'} {x} e f g h =

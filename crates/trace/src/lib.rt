@@ -8,7 +8,7 @@ ghost use Rattle.std.specs.Prelude.{◌≡◌, min, length, take};
 ghost use Rattle.messages.specs.Writing.{bits_of_all};
 ghost use Rattle.trace.specs.inner.Traces as spec;
 
-use messages::{Coded, Message, Recorded};
+use messages::Message;
 use refusal::Refusal;
 
 // Room for the numbers of 510 messages, and how many of them count.
@@ -33,7 +33,7 @@ impl Trace {
     pub fn push(&mut self, message: Message)
         ensures { self.new ≡ spec.pushed message self.old }
     {
-        let Coded::Number(number) = messages::code(message) else {
+        let Ok(number) = messages::code(message) else {
             return;
         };
         if self.len < 510 {
@@ -84,19 +84,8 @@ impl Trace {
         let used = self.used();
         let mut at = place;
         for number in used {
-            at = placed(messages::write(log, at, messages::decode(*number)), at);
+            at = messages::write(log, at, messages::decode(*number)).unwrap_or(at);
         }
         at
-    }
-}
-
-// The place after a message was written; the same place where it was not written.
-fn placed(written: Recorded, place: usize) -> usize
-    ensures { result ≡ spec.placed written place }
-{
-    match written {
-        Recorded::Next(next) => next,
-        Recorded::Full => place,
-        Recorded::Misfit => place,
     }
 }

@@ -1,10 +1,10 @@
 -- What the functions that take a list's requests in turn ask for.
-use Rattle.std.specs.Prelude.{◌≡◌, List, ℕ, ◌*◌, ◌<◌, ◌≤◌, ℤ}
+use Rattle.std.specs.Prelude.{◌≡◌, List, ℕ, ◌*◌, ◌<◌, ◌≤◌}
 use Rattle.requests.specs.Reading.{judged_of}
 use Rattle.requests.specs.declared.Request.{Request}
 use Rattle.requests.specs.declared.Request.TheVariants.{Combine, Write}
 use Rattle.session.specs.declared.Session.{Session}
-use Rattle.aggregate.specs.Running.{list_refusal, Ended, running}
+use Rattle.aggregate.specs.Running.{list_refusal}
 use Rattle.aggregate.specs.Told.{Outcome}
 use Rattle.aggregate.specs.declared.Totals.{Totals}
 

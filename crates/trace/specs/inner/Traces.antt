@@ -1,13 +1,12 @@
 -- A trace: the messages of a request as numbers, and the log that it is written to.
 use Rattle.std.specs.Prelude.{cond, ◌&&◌, List, [], ◌∷◌, ◌++◌, ℕ, zero, suc, ◌+◌, min, ltb, get_or, set, replicate, length, Result, Ok, Err}
+use Rattle.std.specs.Result.{result_unwrap_or}
 use Rattle.refusal.specs.declared.Refusal.{Refusal}
 use Rattle.refusal.specs.declared.Refusal.TheVariants.{NoRoom}
 use Rattle.messages.specs.Records.{fits, coded}
 use Rattle.messages.specs.Reading.{decoded}
 use Rattle.messages.specs.Writing.{recorded_of, log_after, logged, bits_of_all, room_for_all}
 use Rattle.messages.specs.declared.Message.{Message}
-use Rattle.messages.specs.declared.Recorded.{Recorded}
-use Rattle.messages.specs.declared.Recorded.TheVariants.{Next, Full, Misfit}
 use Rattle.trace.specs.declared.Trace.{Trace}
 
 -- the trace of so many of these numbers
@@ -53,15 +52,9 @@ pub record Writing : Type 0 where
 abbrev pub writing : List ℕ → ℕ → Writing
 writing s at = record { log = s; place = at }
 
--- the place after a message was written; as it was where it was not
-abbrev pub placed : Recorded → ℕ → ℕ
-placed (Next next) place = next
-placed Full place = place
-placed Misfit place = place
-
--- a log after one message was written, and after messages were written one by one
+-- a log after one message was written, and after messages were written one by one; the place stays as it was where a message was refused
 abbrev pub noted : Message → Writing → Writing
-noted m w = writing (log_after w.log w.place m) (placed (recorded_of (length w.log) w.place m) w.place)
+noted m w = writing (log_after w.log w.place m) (result_unwrap_or (recorded_of (length w.log) w.place m) w.place)
 
 unfoldable pub noted_all : List Message → Writing → Writing
 noted_all [] w = w

@@ -23,8 +23,8 @@ loop-number-preserved c =
     let l = links_of t in
     let d = done_more c.loop-number.invariant c.decode-message.result c.decode-message.ensures in
     elim c.if-v-u.branch [
-      then-v-u w ↦ d _ (w.session-is ∙ ap (paired t) (step_up l _ _ _ _ c.ends-u.ensures.0.0 c.ends-u.ensures.1.0 w.if-v-u.true w.hit.ensures)) |
-      else-v-u w ↦ d _ (w.session-is ∙ ap (paired t) (step_down l _ _ _ _ c.ends-u.ensures.0.0 c.ends-u.ensures.1.0 w.if-v-u.false w.hit-else-v-u.ensures))
+      | then-v-u w ↦ d _ (w.session-is ∙ ap (paired t) (step_up l _ _ _ _ c.ends-u.ensures.0.0 c.ends-u.ensures.1.0 w.if-v-u.true w.hit.ensures))
+      | else-v-u w ↦ d _ (w.session-is ∙ ap (paired t) (step_down l _ _ _ _ c.ends-u.ensures.0.0 c.ends-u.ensures.1.0 w.if-v-u.false w.hit-else-v-u.ensures))
     ]
 
 pub returns : goal.returns

@@ -1,5 +1,5 @@
 -- `raise::raise` meets its contract: the nodes from i on are raised.
-use mathlib.Core.Path.{◌≡◌, refl, ◌∙◌}
+use mathlib.Core.Path.{◌≡◌, ◌∙◌}
 use Prim.Native.Nat.{suc, ◌-◌}
 use native.Mathlib.Omega.{arith}
 use Rattle.aggregate.proofs.ByRule.{after_combine_lem}

@@ -1,5 +1,5 @@
 -- `serve::whole` meets its contract: 6 where the session is unsound, and else its tree is linked and the request served.
-use mathlib.Core.Path.{◌≡◌, refl, sym, ◌∙◌}
+use mathlib.Core.Path.{◌≡◌, sym, ◌∙◌}
 use mathlib.Core.Bool.{true}
 use borrow.Author.Rules.{rules}
 use lib.ListN.{length}

@@ -1,5 +1,5 @@
 -- The cycle of `spread::spread` and `spread::tell` meets its contracts, by what each way through `tell` and each turn of `spread` adds.
-use mathlib.Core.Path.{◌≡◌, refl, ◌∙◌}
+use mathlib.Core.Path.{◌≡◌, refl}
 use native.Mathlib.Omega.{arith}
 use mir.Syntax.{w64}
 use mir.Facts.{to_z-of_z}
@@ -68,7 +68,7 @@ pub tell-spread-requires : goal.tell-spread-requires
 tell-spread-requires t c = (
   omega arith,
   rw (to_z-of_z c.ranges.sum, handed_on c.after.result c.after.type_inv, to_z-of_z {w = w64} (sends_fits c.requires c.if-w-from.false c.lease-number.ensures c.if-number-eq0.false c.after.ensures))
-  (spreading_on c.requires c.if-w-from.false c.lease-number.ensures c.if-number-eq0.false c.after.ensures refl),
+      (spreading_on c.requires c.if-w-from.false c.lease-number.ensures c.if-number-eq0.false c.after.ensures refl),
 )
 
 pub tell-overflow_cast-w-then-number-eq1 : goal.tell-overflow_cast-w-then-number-eq1

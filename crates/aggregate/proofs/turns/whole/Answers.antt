@@ -1,6 +1,6 @@
 -- `turns::whole` meets its contract: what is still due comes to what the whole list comes to.
 use mathlib.Core.Path.{◌≡◌, refl, sym, ap, ◌∙◌}
-use Prim.Native.Nat.{ℕ, ◌+◌, ◌<◌, ◌≤◌}
+use Prim.Native.Nat.{◌+◌, ◌<◌, ◌≤◌}
 use native.Mathlib.Omega.{arith}
 use borrow.Author.Rules.{rules}
 use lib.ListN.{length}
@@ -9,9 +9,9 @@ use mir.Syntax.{w64}
 use Rattle.refusal.proofs.Numbers.{numbers_within}
 use Rattle.requests.specs.Reading.{item_at}
 use Rattle.requests.specs.declared.Request.{Request}
-use Rattle.requests.specs.declared.Item.TheVariants.{Found}
+use Rattle.std.specs.Prelude.{Ok}
 use Rattle.session.proofs.Typing.{typed}
-use Rattle.aggregate.specs.Running.{Running, running}
+use Rattle.aggregate.specs.Running.{running}
 use Rattle.aggregate.specs.Serving.{served_of, log_of}
 use Rattle.aggregate.specs.inner.Acts.{request_of}
 use Rattle.aggregate.specs.declared.Totals.{Totals}
@@ -29,10 +29,10 @@ module _ (a : After-request-served) where
   more = omega (arith, a.loop-index.invariant.0)
 
   abbrev due : Request
-  due = a.in-Found.request
+  due = a.in-Ok.request
 
-  found : item_at a.args.list.now a.loop-index.at ≡ Found due a.in-Found.after
-  found = sym a.request_at.ensures ∙ a.in-Found.is
+  found : item_at a.args.list.now a.loop-index.at ≡ Ok (due, a.in-Ok.after)
+  found = sym a.request_at.ensures ∙ a.in-Ok.is
 
   -- what was due is what was served
   served : served_of a.loop-index.session (request_of a.of-x.result.0 a.of-x.result.1) (length a.loop-index.log) a.loop-index.totals.next ≡ served_of a.loop-index.session due (length a.loop-index.log) a.loop-index.totals.next
@@ -50,7 +50,7 @@ loop-index-init c = (refl, underway_first _ c.args.list.now c.args.answers.now c
 pub returns-in_default : goal.returns-in_default
 returns-in_default c =
     let l : c.loop-index.totals.requests < c.args.count = omega (arith, c.loop-index.invariant.0) in
-    absurd (never_short c.loop-index.invariant.1 l (sym c.request_at.ensures ∙ c.in_default.is))
+    absurd (never_short c.loop-index.invariant.1 l _ (sym c.request_at.ensures ∙ c.in_default.is))
 
 pub request-served-requires : goal.request-served-requires
 request-served-requires c =
@@ -63,7 +63,7 @@ store-stored-requires c = let a = (goal.at.store-stored-requires c).After-reques
 pub added-totals-requires : goal.added-totals-requires
 added-totals-requires c =
     let a = (goal.at.added-totals-requires c).After-request-served in
-    addable c.loop-index.invariant.1 (more a) (due a) (c.in-Ok.ensures.0 ∙ served a) c.store-stored.ensures.0
+    addable c.loop-index.invariant.1 (more a) (due a) (c.in-Ok-served.ensures.0 ∙ served a) c.store-stored.ensures.0
 
 pub returns-in-Err : goal.returns-in-Err
 returns-in-Err c =
@@ -76,9 +76,9 @@ pub loop-index-preserved : goal.loop-index-preserved
 loop-index-preserved c =
     let a = (goal.at.loop-index-preserved c).After-request-served in
     let is : c.added-totals.result.requests ≡ c.loop-index.totals.requests + 1 = ap (λ (t : Totals). t.requests) c.added-totals.ensures in
-    let answered = to_z-of_z {w = w64} {z = c.in-Ok.outcome.answer} (search rules) in (
+    let answered = to_z-of_z {w = w64} {z = c.in-Ok-served.outcome.answer} (search rules) in (
       omega (arith, c.loop-index.invariant.0),
-      underway_next c.loop-index.invariant.1 (more a) (found a) (c.in-Ok.ensures.0 ∙ served a) (logged a) refl c.store-stored.ensures.0 c.added-totals.ensures answered c.store-stored.ensures.1,
+      underway_next c.loop-index.invariant.1 (more a) (found a) (c.in-Ok-served.ensures.0 ∙ served a) (logged a) refl c.store-stored.ensures.0 c.added-totals.ensures answered c.store-stored.ensures.1,
     )
 
 pub returns : goal.returns

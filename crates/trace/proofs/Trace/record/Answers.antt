@@ -11,7 +11,7 @@ loop-number-init c = refl
 
 pub loop-number-preserved : goal.loop-number-preserved
 loop-number-preserved c =
-    noted_next c.used-used.result.now c.loop-number.number-index _ c.decode.ensures _ c.loop-number.invariant c.write.ensures.0 c.write.ensures.1 c.placed-at.ensures
+    noted_next c.used-used.result.now c.loop-number.number-index _ c.decode.ensures _ c.loop-number.invariant c.write.ensures.0 c.write.ensures.1 c.unwrap_or-at.ensures
 
 pub returns : goal.returns
 returns c =
