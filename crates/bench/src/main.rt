@@ -8,10 +8,9 @@ mod input; // reading the jobs
 mod repeat; // one call, many times over
 
 use input::Head;
-use session::{Session, Started};
+use session::Session;
 use std::io;
 use std::io::Read;
-use tree::Tree;
 
 // Does as many jobs as are there, at most a thousand. What cannot be printed ends the program with
 // that error.
@@ -44,18 +43,8 @@ fn one(rt: &impl Print, input: &mut impl Read, head: Head) -> io::Result<bool> {
 // Makes the job's call to a session of the table's tree.
 fn run(rt: &impl Print, head: Head, table: &[u8]) -> io::Result<()> {
     let mut log = [0u8; 65536];
-    let started = loaded(table);
-    if started.refusal != 0 {
-        return println!(rt; "no table");
+    match table::read(table).and_then(Session::fresh) {
+        Ok(session) => println!(rt; "{}", repeat::sum(head.call, head.times, session, &mut log)),
+        Err(_) => println!(rt; "no table"),
     }
-    let sum = repeat::sum(head.call, head.times, started.session, &mut log);
-    println!(rt; "{sum}")
-}
-
-fn loaded(table: &[u8]) -> Started {
-    let none = Session::fresh(Tree {
-        count: 0,
-        parents: [0; 256],
-    });
-    none.session.load(table)
 }

@@ -1,7 +1,8 @@
 // One call, many times over, each time on the same session.
 ghost use Rattle.std.specs.Prelude.{◌<◌, ◌≤◌};
 
-use aggregate::{Outcome, Ran};
+use aggregate::{Ran, Served};
+use refusal::Refusal;
 use session::Session;
 
 // What is called, at the tree's last node.
@@ -46,52 +47,22 @@ pub fn sum(call: Call, times: u32, fresh: Session, log: &mut [u8]) -> u32 {
         Call::Combines => {
             let mut list = [0u8; 74];
             fill(&mut list, 9, x as u64 % 256);
-            lists(times, session, &list, log)
+            lists(times, &session, &list, log)
         }
         Call::Writes => {
             let mut list = [0u8; 330];
             fill(&mut list, 41, (256 + x as u64 % 256) * 4294967296 + 7);
-            lists(times, session, &list, log)
+            lists(times, &session, &list, log)
         }
-        _ => requests(call, times, session, x, log),
+        _ => requests(call, times, &session, x, log),
     }
-}
-
-fn requests(call: Call, times: u32, session: Session, x: usize, log: &mut [u8]) -> u32 {
-    let mut sum = 0;
-    for _ in 0..times {
-        sum = mixed(sum, one(request(call, session, x, log)));
-    }
-    sum
-}
-
-fn request(call: Call, session: Session, x: usize, log: &mut [u8]) -> Outcome {
-    match call {
-        Call::Silent => aggregate::write(session, x, 7, log, 0).outcome,
-        Call::Both => {
-            let asked = aggregate::combine(session, 0, log, 0);
-            aggregate::write(asked.session, x, 7, log, 0).outcome
-        }
-        _ => aggregate::combine(session, x, log, 0).outcome,
-    }
-}
-
-fn lists(times: u32, session: Session, list: &[u8], log: &mut [u8]) -> u32 {
-    let mut sum = 0;
-    for _ in 0..times {
-        sum = mixed(
-            sum,
-            all(aggregate::run(session, list, &mut [0; 64], log, 0)),
-        );
-    }
-    sum
 }
 
 // The session to which each call is made.
 fn before(call: Call, fresh: Session, x: usize, log: &mut [u8]) -> Session {
     match call {
         Call::Cold => fresh,
-        Call::Free | Call::Combines => aggregate::combine(fresh, x, log, 0).session,
+        Call::Free | Call::Combines => combined(&fresh, x, log),
         Call::Both => Session {
             accepted: 5,
             ..fresh
@@ -100,6 +71,64 @@ fn before(call: Call, fresh: Session, x: usize, log: &mut [u8]) -> Session {
             accepted: 1,
             ..fresh
         },
+    }
+}
+
+// The session after a combine, or as it was where that is refused.
+fn combined(session: &Session, x: usize, log: &mut [u8]) -> Session {
+    match aggregate::combine(*session, x, log, 0) {
+        Ok(served) => served.session,
+        Err(_) => *session,
+    }
+}
+
+// Requests and lists have a loop each: one that takes the call as a closure was tried, and a free
+// combine then took a tenth to a half longer.
+fn requests(call: Call, times: u32, session: &Session, x: usize, log: &mut [u8]) -> u32 {
+    let mut sum = 0;
+    for _ in 0..times {
+        sum = mixed(sum, request(call, session, x, log));
+    }
+    sum
+}
+
+fn lists(times: u32, session: &Session, list: &[u8], log: &mut [u8]) -> u32 {
+    let mut sum = 0;
+    for _ in 0..times {
+        sum = mixed(sum, run(session, list, log));
+    }
+    sum
+}
+
+// What came of one request.
+fn request(call: Call, session: &Session, x: usize, log: &mut [u8]) -> u32 {
+    let served = match call {
+        Call::Silent => aggregate::write(*session, x, 7, log, 0),
+        Call::Both => aggregate::write(combined(session, 0, log), x, 7, log, 0),
+        _ => aggregate::combine(*session, x, log, 0),
+    };
+    match served {
+        Ok(Served { outcome, .. }) => {
+            low(outcome.answer.cast_unsigned()).wrapping_add(outcome.messages)
+        }
+        Err(refusal) => number(refusal),
+    }
+}
+
+// What came of a list.
+fn run(session: &Session, list: &[u8], log: &mut [u8]) -> u32 {
+    match aggregate::run(*session, list, &mut [0; 64], log, 0) {
+        Ok(
+            Ran {
+                stopped,
+                totals,
+                ..
+            },
+        ) => {
+            let done = low(totals.requests as u64).wrapping_add(totals.messages);
+            stopped.map_or(done, |stop| done.wrapping_add(number(stop.refusal)))
+        }
+        Err(refusal) => number(refusal),
     }
 }
 
@@ -114,18 +143,8 @@ fn fill(list: &mut [u8], width: usize, request: u64)
     }
 }
 
-// What came of one request.
-fn one(outcome: Outcome) -> u32 {
-    u32::from(outcome.refusal)
-        .wrapping_add(outcome.messages)
-        .wrapping_add(low(outcome.answer.cast_unsigned()))
-}
-
-// What came of a list.
-fn all(ran: Ran) -> u32 {
-    u32::from(ran.refusal)
-        .wrapping_add(ran.totals.messages)
-        .wrapping_add(low(ran.totals.requests as u64))
+fn number(refusal: Refusal) -> u32 {
+    u32::from(u8::from(refusal))
 }
 
 // The last 32 bits of a number.
@@ -133,7 +152,8 @@ fn low(x: u64) -> u32 {
     (x % 4294967296) as u32
 }
 
-// A sum that tells where each of its parts stood.
+// A sum, modulo 2^32, that tells where each of its parts stood: a line that `cases` has too, and no
+// crate for it is plainer.
 fn mixed(sum: u32, said: u32) -> u32 {
     sum.wrapping_mul(31).wrapping_add(said)
 }

@@ -4,6 +4,7 @@ use session::{Pairs, Session};
 
 // The entry is 65536 times the array's number, and the place in it: 0 count, 1 parents, 2 values, 3
 // to 5 lease, cache and messages from child to parent, 6 to 8 from parent to child, 9 accepted.
+// The numbers are told apart here alone: an enum of them would be a second table of the same ten.
 pub fn entry(session: &mut Session, entry: u64, value: u64) {
     let i = (entry % 256) as usize;
     match entry / 65536 {

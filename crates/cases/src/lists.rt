@@ -2,14 +2,14 @@
 ghost use Rattle.std.specs.Iterator.{at_most};
 
 use crate::show::{self, Bytes};
-use requests::{Item, Judged, Request};
+use requests::{Judged, Request};
 use std::{fmt, io};
 
 // A list is judged, and its requests are handed out from the first place on.
 pub fn read(rt: &impl Print, list: &[u8]) -> io::Result<()> {
     let judged = requests::judge(list);
-    print!(rt; "list{}: {}", Bytes(list), judged.refusal)?;
-    if judged.refusal == 0 {
+    print!(rt; "list{}: {}", Bytes(list), show::number(&judged))?;
+    if let Ok(judged) = judged {
         let sum = Requests::of(list, judged).fold(0, |sum, r| show::mixed(sum, number(r)));
         print!(rt;
             " {} requests, {} combines, sum {sum}",
@@ -23,8 +23,8 @@ pub fn read(rt: &impl Print, list: &[u8]) -> io::Result<()> {
 pub fn item(rt: &impl Print, place: u64, list: &[u8]) -> io::Result<()> {
     print!(rt; "item {place} of{}: ", Bytes(list))?;
     match requests::request_at(list, place as usize) {
-        Item::Found(request, next) => println!(rt; "{} to {next}", Words(request)),
-        Item::Short => println!(rt; "short"),
+        Ok((request, next)) => println!(rt; "{} to {next}", Words(request)),
+        Err(_) => println!(rt; "short"),
     }
 }
 
@@ -54,13 +54,9 @@ impl Iterator for Requests<'_> {
 
     fn next(&mut self) -> Option<Request> {
         self.left = self.left.checked_sub(1)?;
-        match requests::request_at(self.list, self.place) {
-            Item::Found(request, next) => {
-                self.place = next;
-                Some(request)
-            }
-            Item::Short => None,
-        }
+        let (request, next) = requests::request_at(self.list, self.place).ok()?;
+        self.place = next;
+        Some(request)
     }
 }
 

@@ -1,6 +1,7 @@
 // Logs: messages written, and read.
 use crate::show::Bytes;
-use messages::{Entry, Message, Recorded};
+use messages::Message;
+use refusal::Refusal;
 use std::{fmt, io};
 
 // A message is written to the log, and read back. Its kind, sender and receiver are b in 2, 8 and 8
@@ -13,25 +14,13 @@ pub fn write(rt: &impl Print, place: u64, b: u64, c: u64, log: &mut [u8]) -> io:
         c.cast_signed(),
     );
     print!(rt; "write {} at {place}:", Words(message))?;
-    let end = match messages::write(log, place as usize, message) {
-        Recorded::Next(next) => {
-            print!(rt; " {next}")?;
-            next
-        }
-        Recorded::Full => {
-            print!(rt; " refused 9")?;
-            0
-        }
-        Recorded::Misfit => {
-            print!(rt; " refused 11")?;
-            0
-        }
-    };
-    println!(rt;
-        "{}{}",
-        Bytes(log),
-        Found(messages::read(log, place as usize, end))
-    )
+    let written = messages::write(log, place as usize, message);
+    match written {
+        Ok(next) => print!(rt; " {next}")?,
+        Err(refusal) => print!(rt; " refused {}", u8::from(refusal))?,
+    }
+    let read = messages::read(log, place as usize, written.unwrap_or(0));
+    println!(rt; "{}{}", Bytes(log), Found(read))
 }
 
 fn message(kind: u64, from: u8, to: u8, value: i64) -> Message {
@@ -54,9 +43,9 @@ pub fn read(rt: &impl Print, place: u64, end: u64, log: &[u8]) -> io::Result<()>
 fn all(rt: &impl Print, place: usize, end: usize, log: &[u8]) -> io::Result<()> {
     let mut at = place;
     for _ in 0..1000 {
-        let entry = messages::read(log, at, end);
-        print!(rt; "{}", Found(entry))?;
-        let Entry::Read(_, next) = entry else {
+        let read = messages::read(log, at, end);
+        print!(rt; "{}", Found(read))?;
+        let Ok(Some((_, next))) = read else {
             return Ok(());
         };
         at = next;
@@ -68,7 +57,7 @@ fn all(rt: &impl Print, place: usize, end: usize, log: &[u8]) -> io::Result<()> 
 fn count(place: usize, end: usize, log: &[u8]) -> usize {
     let mut at = place;
     for n in 0..29127 {
-        let Entry::Read(_, next) = messages::read(log, at, end) else {
+        let Ok(Some((_, next))) = messages::read(log, at, end) else {
             return n;
         };
         at = next;
@@ -78,14 +67,14 @@ fn count(place: usize, end: usize, log: &[u8]) -> usize {
 
 // What stands at a place of a log.
 #[derive(Clone, Copy)]
-struct Found(Entry);
+struct Found(Result<Option<(Message, usize)>, Refusal>);
 
 impl fmt::Display for Found {
     fn fmt<W: fmt::Write>(&self, f: &mut fmt::Formatter<W>) -> fmt::Result {
         match self.0 {
-            Entry::Read(message, next) => write!(f, " {} to {next},", Words(message)),
-            Entry::End => f.write_str(" end"),
-            Entry::Short => f.write_str(" refused 1"),
+            Ok(Some((message, next))) => write!(f, " {} to {next},", Words(message)),
+            Ok(None) => f.write_str(" end"),
+            Err(refusal) => write!(f, " refused {}", u8::from(refusal)),
         }
     }
 }

@@ -46,7 +46,8 @@ fn one(rt: &impl Print, input: &mut impl Read, head: Head) -> io::Result<bool> {
     Ok(true)
 }
 
-// One case: its letter says what is done with the numbers and the bytes.
+// One case: its letter says what is done with the numbers and the bytes. The letters are told apart
+// here alone: an enum of them would be a second table of the same twelve.
 fn run(rt: &impl Print, head: Head, bytes: &mut [u8]) -> io::Result<()> {
     let Head {
         letter,

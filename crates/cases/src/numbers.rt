@@ -1,8 +1,6 @@
 // Fields and what they stand for.
-use crate::show::Bytes;
-use fields::Field;
+use crate::show::{Bytes, Or};
 use std::io;
-use twos::{Decoded, Decoded32, Encoded};
 
 // A number is put into a field of the bytes, and what is in the field is read.
 pub fn field(
@@ -17,27 +15,25 @@ pub fn field(
     } else {
         "refused"
     };
-    print!(rt; "field {place} {width} {value}: {put}{} ", Bytes(bytes))?;
-    match fields::get(bytes, place as usize, width as usize) {
-        Field::Value(n) => println!(rt; "{n}"),
-        Field::Short => println!(rt; "short"),
-    }
+    let got = fields::get(bytes, place as usize, width as usize);
+    println!(rt;
+        "field {place} {width} {value}: {put}{} {}",
+        Bytes(bytes),
+        Or(got, "short")
+    )
 }
 
 // What a number stands for in a field of so many bits, as an i64 and as an i32; and the number of
 // the value that it stands for in 64.
 pub fn sign(rt: &impl Print, number: u64, width: u64) -> io::Result<()> {
-    print!(rt; "sign {number} {width}:")?;
-    match twos::decode(number, width as usize) {
-        Decoded::Value(value) => print!(rt; " {value}")?,
-        Decoded::Misfit => print!(rt; " misfit")?,
-    }
-    match twos::decode32(number, width as usize) {
-        Decoded32::Value(value) => print!(rt; " {value}")?,
-        Decoded32::Misfit => print!(rt; " misfit")?,
-    }
-    match twos::encode(number.cast_signed(), width as usize) {
-        Encoded::Number(n) => println!(rt; " {n}"),
-        Encoded::Misfit => println!(rt; " misfit"),
-    }
+    let bits = width as usize;
+    let value = twos::decode(number, bits);
+    let value32 = twos::decode32(number, bits);
+    let encoded = twos::encode(number.cast_signed(), bits);
+    println!(rt;
+        "sign {number} {width}: {} {} {}",
+        Or(value, "misfit"),
+        Or(value32, "misfit"),
+        Or(encoded, "misfit")
+    )
 }

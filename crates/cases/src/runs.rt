@@ -2,6 +2,7 @@
 use crate::sessions;
 use crate::show::{self, Bytes};
 use aggregate::Ran;
+use refusal::Refusal;
 use session::Session;
 use std::io;
 
@@ -10,7 +11,8 @@ use std::io;
 pub fn run(rt: &impl Print, table: u64, place: u64, sizes: u64, bytes: &[u8]) -> io::Result<()> {
     print!(rt; "run")?;
     if let Some((table, list)) = bytes.split_at_checked(table as usize) {
-        let session = sessions::other().load(table).session;
+        let other = sessions::other();
+        let session = other.load(table).unwrap_or(other);
         lent(rt, session, place as usize, sizes, list)?;
     }
     println!(rt)
@@ -37,16 +39,33 @@ fn lent(
     );
     totals(rt, &ran)?;
     print!(rt; " answers {} log{}", summed(&answers), Bytes(&log))?;
-    sessions::held(rt, &ran.session)
+    match ran {
+        Ok(ran) => sessions::held(rt, &ran.session),
+        Err(_) => sessions::held(rt, &session),
+    }
 }
 
-pub fn totals(rt: &impl Print, ran: &Ran) -> io::Result<()> {
-    let totals = ran.totals;
-    print!(rt; "\n  {} {}", ran.refusal, ran.index)?;
-    print!(rt;
-        " {} {} {} {}",
-        totals.requests, totals.answers, totals.messages, totals.next
-    )
+// What a run told: the number of a refusal and the index of its request, and the totals.
+pub fn totals(rt: &impl Print, ran: &Result<Ran, Refusal>) -> io::Result<()> {
+    match ran {
+        Ok(
+            Ran {
+                stopped,
+                totals,
+                ..
+            },
+        ) => {
+            match stopped {
+                Some(stop) => print!(rt; "\n  {} {}", u8::from(stop.refusal), stop.index)?,
+                None => print!(rt; "\n  0 0")?,
+            }
+            print!(rt;
+                " {} {} {} {}",
+                totals.requests, totals.answers, totals.messages, totals.next
+            )
+        }
+        Err(refusal) => print!(rt; "\n  {} 0 0 0 0 0", u8::from(*refusal)),
+    }
 }
 
 fn summed(answers: &[i64]) -> u32 {

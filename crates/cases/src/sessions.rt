@@ -2,7 +2,8 @@
 use crate::lists::Requests;
 use crate::show::{self, Bytes};
 use crate::{change, runs};
-use aggregate::{Outcome, Served};
+use aggregate::Served;
+use refusal::Refusal;
 use requests::Request;
 use session::{Pairs, Session};
 use std::io;
@@ -19,13 +20,16 @@ pub fn serve(rt: &impl Print, table: u64, place: u64, room: u64, bytes: &[u8]) -
 }
 
 fn loaded(rt: &impl Print, table: &[u8], place: usize, room: usize, list: &[u8]) -> io::Result<()> {
-    let started = other().load(table);
-    print!(rt; "{}: {}", Bytes(table), started.refusal)?;
-    if started.refusal != 0 {
-        return held(rt, &started.session);
+    let other = other();
+    let loaded = other.load(table);
+    print!(rt; "{}: {}", Bytes(table), show::number(&loaded))?;
+    match loaded {
+        Ok(session) => {
+            print!(rt; " {}", show::number(&requests::judge(list)))?;
+            held(rt, &run(rt, session, place, room, list)?)
+        }
+        Err(_) => held(rt, &other),
     }
-    print!(rt; " {}", requests::judge(list).refusal)?;
-    held(rt, &run(rt, started.session, place, room, list)?)
 }
 
 // A table is loaded and a list served, then one entry of the session is changed, and what each call
@@ -39,8 +43,9 @@ pub fn unsound(
 ) -> io::Result<()> {
     print!(rt; "changed {entry} {value}:")?;
     if let Some((table, list)) = bytes.split_at_checked(table as usize) {
-        let started = other().load(table);
-        let mut session = run(rt, started.session, 0, 2423, list)?;
+        let other = other();
+        let session = other.load(table).unwrap_or(other);
+        let mut session = run(rt, session, 0, 2423, list)?;
         change::entry(&mut session, entry, value);
         calls(rt, session)?;
     }
@@ -49,14 +54,23 @@ pub fn unsound(
 
 // A session that is to be replaced.
 pub fn other() -> Session {
-    let tree = Tree {
-        count: 2,
-        parents: [0; 256],
+    let none = Pairs {
+        lease: [0; 256],
+        cache: [0; 256],
+        messages: [0; 256],
     };
-    let mut session = Session::fresh(tree).session;
-    session.values[1] = 7;
-    session.accepted = 9;
-    session
+    let mut values = [0; 256];
+    values[1] = 7;
+    Session {
+        tree: Tree {
+            count: 2,
+            parents: [0; 256],
+        },
+        values,
+        up: none,
+        down: none,
+        accepted: 9,
+    }
 }
 
 // The requests of an accepted list, up to the first that is refused.
@@ -67,44 +81,45 @@ fn run(
     room: usize,
     list: &[u8],
 ) -> io::Result<Session> {
-    for request in Requests::of(list, requests::judge(list)) {
-        let served = one(rt, session, request, place, room)?;
-        session = served.session;
-        if served.outcome.refusal != 0 {
+    let Ok(judged) = requests::judge(list) else {
+        return Ok(session);
+    };
+    for request in Requests::of(list, judged) {
+        let mut log = [0u8; 2500];
+        let room = log.len().min(room);
+        let served = asked(session, request, &mut log[..room], place);
+        outcome(rt, &served)?;
+        print!(rt; " log{}", Bytes(&log))?;
+        let Ok(Served { session: after, .. }) = served else {
             break;
-        }
+        };
+        session = after;
     }
     Ok(session)
 }
 
-// One request, and what it answers and logs.
-fn one(
-    rt: &impl Print,
+// `rww` has the same `match`: programs share no crate, and one for this alone would be no plainer.
+pub fn asked(
     session: Session,
     request: Request,
+    log: &mut [u8],
     place: usize,
-    room: usize,
-) -> io::Result<Served> {
-    let mut log = [0u8; 2500];
-    let room = log.len().min(room);
-    let served = asked(session, request, &mut log[..room], place);
-    outcome(rt, served.outcome)?;
-    print!(rt; " log{}", Bytes(&log))?;
-    Ok(served)
-}
-
-pub fn asked(session: Session, request: Request, log: &mut [u8], place: usize) -> Served {
+) -> Result<Served, Refusal> {
     match request {
         Request::Combine(x) => aggregate::combine(session, x as usize, log, place),
         Request::Write(x, value) => aggregate::write(session, x as usize, value, log, place),
     }
 }
 
-fn outcome(rt: &impl Print, outcome: Outcome) -> io::Result<()> {
-    print!(rt;
-        "\n  {} {} {} {}",
-        outcome.refusal, outcome.answer, outcome.messages, outcome.next
-    )
+// What a request told: the number of a refusal, the answer, the messages and the next log place.
+fn outcome(rt: &impl Print, served: &Result<Served, Refusal>) -> io::Result<()> {
+    match served {
+        Ok(Served { outcome, .. }) => print!(rt;
+            "\n  0 {} {} {}",
+            outcome.answer, outcome.messages, outcome.next
+        ),
+        Err(refusal) => print!(rt; "\n  {} 0 0 0", u8::from(*refusal)),
+    }
 }
 
 // What a session holds: its count of requests, and sums over its arrays.
@@ -142,12 +157,12 @@ fn calls(rt: &impl Print, session: Session) -> io::Result<()> {
     let written = session.write_table(&mut table);
     print!(rt;
         " {sound} {} {}{}",
-        written.refusal,
-        written.bytes,
+        show::number(&written),
+        written.unwrap_or(0),
         Bytes(&table)
     )?;
-    outcome(rt, aggregate::combine(session, 0, &mut log, 0).outcome)?;
-    outcome(rt, aggregate::write(session, 0, -1, &mut log, 0).outcome)?;
+    outcome(rt, &aggregate::combine(session, 0, &mut log, 0))?;
+    outcome(rt, &aggregate::write(session, 0, -1, &mut log, 0))?;
     let ran = aggregate::run(session, &[0, 0], &mut [], &mut log, 0);
     runs::totals(rt, &ran)?;
     print!(rt; "{}", Bytes(&log))

@@ -1,5 +1,27 @@
 // What is printed in several places.
+use refusal::Refusal;
 use std::fmt;
+
+// 0 for an answer, or the number of a refusal.
+pub fn number<T>(answer: &Result<T, Refusal>) -> u8 {
+    match answer {
+        Ok(_) => 0,
+        Err(refusal) => u8::from(*refusal),
+    }
+}
+
+// A value, or a word where there is none.
+#[derive(Clone, Copy)]
+pub struct Or<T>(pub Result<T, Refusal>, pub &'static str);
+
+impl<T: fmt::Display> fmt::Display for Or<T> {
+    fn fmt<W: fmt::Write>(&self, f: &mut fmt::Formatter<W>) -> fmt::Result {
+        match &self.0 {
+            Ok(value) => write!(f, "{value}"),
+            Err(_) => f.write_str(self.1),
+        }
+    }
+}
 
 // Bytes in hexadecimal, each behind a blank; of many, how many there are and a sum over them.
 #[derive(Clone, Copy)]

@@ -1,16 +1,16 @@
 // Tables: read, and written.
-use crate::show::Bytes;
+use crate::show::{self, Bytes};
 use session::Session;
 use std::{array, io};
 use tree::Tree;
 
 // A table is read, and the tree is written into bytes of ones.
 pub fn read(rt: &impl Print, bytes: &[u8]) -> io::Result<()> {
-    let reading = table::read(bytes);
-    print!(rt; "table{}: {}", Bytes(bytes), reading.refusal)?;
-    if reading.refusal == 0 {
-        print!(rt; " {} nodes, back", reading.tree.count)?;
-        written(rt, reading.tree, &mut [255; 256])?;
+    let read = table::read(bytes);
+    print!(rt; "table{}: {}", Bytes(bytes), show::number(&read))?;
+    if let Ok(tree) = read {
+        print!(rt; " {} nodes, back", tree.count)?;
+        written(rt, tree, &mut [255; 256])?;
     }
     println!(rt)
 }
@@ -19,12 +19,13 @@ pub fn read(rt: &impl Print, bytes: &[u8]) -> io::Result<()> {
 // go, is written into the bytes; entry c is made 255 before. Then a session is started from it.
 pub fn write(rt: &impl Print, count: u64, children: u64, c: u64, out: &mut [u8]) -> io::Result<()> {
     let tree = grown(count % 65536, children, c);
-    let started = Session::fresh(tree);
+    let fresh = Session::fresh(tree);
     print!(rt; "tree {count} {children} {c}:")?;
     written(rt, tree, out)?;
     println!(rt;
         " session {} {}",
-        started.refusal, started.session.tree.count
+        show::number(&fresh),
+        fresh.map_or(0, |session| session.tree.count)
     )
 }
 
@@ -33,8 +34,8 @@ fn written(rt: &impl Print, tree: Tree, out: &mut [u8]) -> io::Result<()> {
     let written = table::write(tree, out);
     print!(rt;
         " {} {} bytes,{}",
-        written.refusal,
-        written.bytes,
+        show::number(&written),
+        written.unwrap_or(0),
         Bytes(out)
     )
 }

@@ -2,7 +2,7 @@
 use crate::lists::Requests;
 use crate::sessions;
 use crate::show::Digits;
-use aggregate::{Outcome, Served};
+use aggregate::Outcome;
 use requests::Request;
 use session::Session;
 use std::io;
@@ -16,24 +16,34 @@ pub fn serve(rt: &impl Print, table: u64, logs: u64, bytes: &[u8]) -> io::Result
 }
 
 fn loaded(rt: &impl Print, table: &[u8], logs: bool, list: &[u8]) -> io::Result<()> {
-    let started = sessions::other().load(table);
-    if started.refusal != 0 {
-        return println!(rt; "table {}", started.refusal);
+    let session = match sessions::other().load(table) {
+        Ok(session) => session,
+        Err(refusal) => return println!(rt; "table {}", u8::from(refusal)),
+    };
+    match requests::judge(list) {
+        Ok(judged) => run(rt, session, logs, Requests::of(list, judged)),
+        Err(refusal) => println!(rt; "list {}", u8::from(refusal)),
     }
-    let refusal = requests::judge(list).refusal;
-    if refusal != 0 {
-        return println!(rt; "list {refusal}");
-    }
-    run(rt, started.session, logs, list)
 }
 
-// The requests of an accepted list, up to the first that is refused.
-fn run(rt: &impl Print, mut session: Session, logs: bool, list: &[u8]) -> io::Result<()> {
+// The requests of an accepted list, up to the first that is refused, each from bit 0 of zero bytes on,
+// and what they answer and log.
+fn run(
+    rt: &impl Print,
+    mut session: Session,
+    logs: bool,
+    requests: Requests<'_>,
+) -> io::Result<()> {
     let mut sum = 0u32;
-    for (index, request) in Requests::of(list, requests::judge(list)).enumerate() {
-        let served = one(rt, session, request, index, logs)?;
-        if served.outcome.refusal != 0 {
-            return Ok(());
+    for (index, request) in requests.enumerate() {
+        let mut log = [0u8; 2423];
+        let served = match sessions::asked(session, request, &mut log, 0) {
+            Ok(served) => served,
+            Err(refusal) => return println!(rt; "request {index} {}", u8::from(refusal)),
+        };
+        accepted(rt, request, served.outcome)?;
+        if logs {
+            logged(rt, index, served.outcome.next, &log)?;
         }
         session = served.session;
         sum = sum.saturating_add(served.outcome.messages);
@@ -41,27 +51,7 @@ fn run(rt: &impl Print, mut session: Session, logs: bool, list: &[u8]) -> io::Re
     println!(rt; "total {sum}")
 }
 
-// One request, from bit 0 of zero bytes on, and what it answers and logs.
-fn one(
-    rt: &impl Print,
-    session: Session,
-    request: Request,
-    index: usize,
-    logs: bool,
-) -> io::Result<Served> {
-    let mut log = [0u8; 2423];
-    let served = sessions::asked(session, request, &mut log, 0);
-    if served.outcome.refusal != 0 {
-        println!(rt; "request {index} {}", served.outcome.refusal)?;
-        return Ok(served);
-    }
-    accepted(rt, request, served.outcome)?;
-    if logs {
-        logged(rt, index, served.outcome.next, &log)?;
-    }
-    Ok(served)
-}
-
+// The line that `rww` prints: two formats there, two here, and no crate between them is plainer.
 fn accepted(rt: &impl Print, request: Request, outcome: Outcome) -> io::Result<()> {
     let messages = outcome.messages;
     match request {
