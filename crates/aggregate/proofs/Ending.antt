@@ -21,8 +21,8 @@ use Rattle.mechanism.specs.Refusals.{all_fit, refusal_of}
 use Rattle.mechanism.proofs.Few.{few_messages}
 use Rattle.mechanism.proofs.Fits.{messages_fit, never_misfit, sum_ranging}
 use Rattle.trace.specs.inner.Traces.{messages_of, trace, pushed_all, logged_of, log_after_all}
-use Rattle.trace.specs.declared.Logged.{Logged}
-use Rattle.trace.specs.declared.Logged.TheVariants.{Next, Full}
+use Rattle.std.specs.Prelude.{Result, Ok, Err}
+use Rattle.refusal.specs.declared.Refusal.{Refusal}
 use Rattle.trace.proofs.Traced.{trace_holds}
 use Rattle.aggregate.specs.inner.Acts.{early_refusal}
 use Rattle.aggregate.specs.Serving.{refused, refusal, served_of, log_of}
@@ -43,19 +43,19 @@ module _ (s : Session) (r : Request) (log : List ℕ) (place : ℕ) where
       (rw i, rw (i, ne_eqb (suc n) 0 (omega arith)))
 
   -- past these tests the room decides
-  module _ (ready : Ready s (node_of r)) (fit : all_fit (says sum s r).log ≡ true) (answer : Logged) (told : answer ≡ logged_of (length log) place (says sum s r).log)
+  module _ (ready : Ready s (node_of r)) (fit : all_fit (says sum s r).log ≡ true) (answer : Result ℕ Refusal) (told : answer ≡ logged_of (length log) place (says sum s r).log)
       (log' : List ℕ) (logs : log' ≡ log_after_all log place (says sum s r).log) where
     -- refused for lack of room
-    pub ends_full : answer ≡ Full → (refused 9 s ≡ served_of s r (length log) place) × (log' ≡ log_of s r log place)
+    pub ends_full : {x : Refusal} → answer ≡ Err x → (refused 9 s ≡ served_of s r (length log) place) × (log' ≡ log_of s r log place)
     unfolding served_of log_of logged_of log_after_all
-    ends_full full = go (room_for_all (length log) place (says sum s r).log) refl
+    ends_full {x} full = go (room_for_all (length log) place (says sum s r).log) refl
       where
         go : (b : Bool) → room_for_all (length log) place (says sum s r).log ≡ b → (refused 9 s ≡ served_of s r (length log) place) × (log' ≡ log_of s r log place)
         go true e = let d = rw e at told in let y : ◌≡◌ {A = ℕ} 1 0 = cc in absurd (suc-ne-zero 0 y)
         go false e = let i : refusal s r (length log) place ≡ 9 = by_room s (node_of r) (length log) place (says sum s r).log ready fit ∙ rw e in (rw i, rw (logs, i, e))
 
     -- accepted
-    pub ends_well : (z : ℤ) (k next : ℕ) (t : Session) → z ≡ (says sum s r).sum → k ≡ length (says sum s r).log → answer ≡ Next next → t ≡ after sum 2 s r
+    pub ends_well : (z : ℤ) (k next : ℕ) (t : Session) → z ≡ (says sum s r).sum → k ≡ length (says sum s r).log → answer ≡ Ok next → t ≡ after sum 2 s r
         → (record { outcome = record { refusal = 0; answer = z; messages = k; next = next }; session = t } ≡ served_of s r (length log) place) × (log' ≡ log_of s r log place)
     unfolding served_of log_of logged_of log_after_all
     ends_well z k next t answers counts all becomes = go (room_for_all (length log) place (says sum s r).log) refl

@@ -16,7 +16,9 @@ use Rattle.session.specs.declared.Pairs.{Pairs}
 use Rattle.mechanism.specs.Applying.{from_of, to_of, Cell, hit, read_at, store_at, Links, cell, put_if, put, stepped, applied}
 use Rattle.mechanism.proofs.Cells.{cell_by}
 use Rattle.trace.specs.inner.Traces.{messages_in}
-use Rattle.aggregate.specs.inner.Afters.{Counts}
+use Rattle.mechanism.specs.Requests.{links_of}
+use Rattle.session.specs.declared.Session.{Session}
+use Rattle.aggregate.specs.inner.Afters.{Counts, paired}
 
 -- ---- a message at its pair, by the side of the entry
 
@@ -71,19 +73,19 @@ unfolding applied
 applied_more [] m l = refl
 applied_more (p ∷ ms) m l = applied_more ms m (stepped p l)
 
--- what the loop has made of the pairs o after k messages
-pub record Done (ns : List ℕ) (o : Links) (k : ℕ) (l : Links) : Type 0 where
-  pub few : Counts (2097152 + k) l
-  pub is : l ≡ applied (messages_in ns k) o
+-- what the loop has made of the session s after k messages
+pub record Done (ns : List ℕ) (s : Session) (k : ℕ) (t : Session) : Type 0 where
+  pub few : Counts (2097152 + k) (links_of t)
+  pub is : t ≡ paired s (applied (messages_in ns k) (links_of s))
 
-pub done_none : (ns : List ℕ) (o : Links) → Counts 2097152 o → Done ns o 0 o
+pub done_none : (ns : List ℕ) (s : Session) → Counts 2097152 (links_of s) → Done ns s 0 s
 unfolding messages_in applied
-done_none ns o c = record { few = counts_more 2097152 (2097152 + 0) o (omega arith) c; is = refl }
+done_none ns s c = record { few = counts_more 2097152 (2097152 + 0) (links_of s) (omega arith) c; is = refl }
 
-pub done_more : {ns : List ℕ} {o l : Links} {k : ℕ} → Done ns o k l → (m : Message) → m ≡ decoded (get_or ns k 0) → (r : Links) → r ≡ stepped m l → Done ns o (k + 1) r
+pub done_more : {ns : List ℕ} {s t : Session} {k : ℕ} → Done ns s k t → (m : Message) → m ≡ decoded (get_or ns k 0) → (r : Session) → r ≡ paired t (stepped m (links_of t)) → Done ns s (k + 1) r
 unfolding messages_in
-done_more {ns} {o} {l} {k} d m n r e =
+done_more {ns} {s} {t} {k} d m n r e =
     record {
-      few = rw e (counts_more (2097152 + k + 1) (2097152 + (k + 1)) _ (omega arith) (counts_step (2097152 + k) m l d.few));
-      is = rw add-one (e ∙ ap (stepped m) d.is ∙ sym (applied_more (messages_in ns k) m o) ∙ ap (λ p. applied (messages_in ns k ++ (p ∷ [])) o) n);
+      few = rw e (counts_more (2097152 + k + 1) (2097152 + (k + 1)) _ (omega arith) (counts_step (2097152 + k) m (links_of t) d.few));
+      is = rw add-one (e ∙ ap (λ (o : Session). paired o (stepped m (links_of o))) d.is ∙ ap (paired s) (sym (applied_more (messages_in ns k) m (links_of s)) ∙ ap (λ p. applied (messages_in ns k ++ (p ∷ [])) (links_of s)) n));
     }

@@ -16,4 +16,5 @@ pub mod Listing
 pub mod Lasting
 pub mod Stopping
 pub mod Speaking
+pub mod Telling
 pub mod Outcomes

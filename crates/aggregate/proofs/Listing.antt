@@ -21,7 +21,7 @@ use Rattle.session.specs.declared.Session.{Session}
 use Rattle.session.proofs.Soundly.{sound_exactly}
 use Rattle.aggregate.specs.Running.{start, Ended, runs, list_refusal, ended_as, refused, end_of, ran_of, answers_of, run_log_of, earlier_of, Whole, unread, few_places, unsound, starts}
 use Rattle.aggregate.specs.Promises.{WholeExactly, WholeKept, OneByOne, AllDone, StopsMidway, EmptyList}
-use Rattle.aggregate.specs.declared.Ran.{Ran}
+use Rattle.aggregate.specs.Told.{Ran}
 use Rattle.aggregate.proofs.Runs.{serves, Reach, reach, sized_first, combines_first}
 use Rattle.aggregate.proofs.Wholly.{Runnable, runnable_by, Ends, ends, ends_whole}
 

@@ -11,7 +11,9 @@ use Rattle.requests.specs.Lists.{Sized, AllSized, one_if_combine, combines_in}
 use Rattle.requests.specs.Reading.{item_at, told, Hands, requests_of}
 use Rattle.requests.specs.declared.Request.{Request}
 use Rattle.requests.specs.declared.Request.TheVariants.{Combine, Write}
-use Rattle.requests.specs.declared.Item.TheVariants.{Found, Short}
+use Rattle.std.specs.Prelude.{Ok, Err}
+use Rattle.refusal.specs.declared.Refusal.{Refusal}
+use Rattle.refusal.proofs.Numbers.{numbers_within}
 use Rattle.requests.proofs.Items.{item_exactly}
 use Rattle.requests.proofs.Runs.{read_sized, counts_right}
 use Rattle.requests.proofs.Handing.{handed_out}
@@ -22,11 +24,11 @@ use Rattle.session.specs.declared.Session.{Session}
 use Rattle.aggregate.specs.Serving.{log_of}
 use Rattle.aggregate.specs.Running.{Running, running, start, in_turn, stored, added, done, runs, list_refusal, end_of}
 use Rattle.aggregate.specs.inner.Turns.{Starting, HasPlace, Addable}
-use Rattle.aggregate.specs.declared.Served.{Served}
+use Rattle.aggregate.specs.Told.{Served}
 use Rattle.aggregate.specs.declared.Totals.{Totals}
 use Rattle.aggregate.proofs.Verdicts.{refuses, logs_nothing}
 use Rattle.aggregate.proofs.Logging.{request_length_kept, at_most_510}
-use Rattle.aggregate.proofs.Keeping.{sessions_sound}
+use Rattle.aggregate.proofs.Keeping.{sessions_sound, served_rooted}
 use Rattle.aggregate.proofs.Runs.{stored_length}
 use Rattle.aggregate.proofs.Wholly.{runnable_by}
 
@@ -44,6 +46,7 @@ pub record Underway (s : Session) (list : List ℕ) (answers : List ℤ) (log : 
   pub same : runs due o ≡ end_of s list answers log place
   pub left : o.totals.requests + length due ≡ count
   pub few : count ≤ 4096
+  pub rooted : o.session.tree ≡ s.tree
   pub typed : Typed o.session
   pub holds : Sound 2 o.session
   pub sized : AllSized due
@@ -65,6 +68,7 @@ underway_first s list answers log place count first typed b =
       same = refl;
       left = omega (arith, b.counted, c.0);
       few = omega (arith, b.counted, a.few);
+      rooted = refl;
       typed = typed;
       holds = a.holds;
       sized = read_sized list;
@@ -101,8 +105,8 @@ module _ {s : Session} {list : List ℕ} {answers : List ℤ} {log : List ℕ} {
     abbrev rest : List Request
     rest = ahead.1
 
-    pub never_short : item_at list at ≡ Short → ⊥
-    never_short e = omega (arith, ap (λ (t : ℕ × List (Request × ℕ)). t.0) (sym ahead.4 ∙ ap told e))
+    pub never_short : (r : Refusal) → item_at list at ≡ Err r → ⊥
+    never_short r e = omega (arith, ap (λ (t : ℕ × List (Request × ℕ)). t.0) (sym ahead.4 ∙ ap told e), (numbers_within r).0)
 
     pub addable : (r : Request) {v : Served} {k : ℕ} → v ≡ in_turn r o → k ≡ one_if_combine r → Addable o.totals k v.outcome
     addable r served e =
@@ -115,7 +119,7 @@ module _ {s : Session} {list : List ℕ} {answers : List ℤ} {log : List ℕ} {
           at_most_510 = (at_most_510 o.session r (length o.log) o.totals.next).0;
         })
 
-    module _ {r : Request} {next : ℕ} (found : item_at list at ≡ Found r next) where
+    module _ {r : Request} {next : ℕ} (found : item_at list at ≡ Ok (r, next)) where
       it_is : (u.due ≡ r ∷ rest) × Hands list next rest
       it_is =
           let a = (item_exactly list at next r).0 (ap told found) in
@@ -156,6 +160,7 @@ module _ {s : Session} {list : List ℕ} {answers : List ℤ} {log : List ℕ} {
             same = goes_on e ∙ runs_now;
             left = omega (arith, left_now);
             few = u.few;
+            rooted = served_rooted o.session r (length o.log) o.totals.next ∙ u.rooted;
             typed = kept.0;
             holds = kept.1;
             sized = sized_now.1;

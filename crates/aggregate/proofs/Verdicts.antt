@@ -22,7 +22,9 @@ use Rattle.mechanism.specs.Refusals as refusals
 use Rattle.mechanism.proofs.Refusing.{request_ruled_exactly}
 use Rattle.mechanism.proofs.Few.{few_messages}
 use Rattle.mechanism.proofs.Fits.{messages_fit, never_misfit, sum_ranging}
-use Rattle.aggregate.specs.Serving.{refused, accepted, served, refusal, served_of, log_of}
+use Rattle.aggregate.specs.Told.{Served}
+use Rattle.aggregate.specs.inner.Acts.{served_as}
+use Rattle.aggregate.specs.Serving.{refused_outcome, refused, accepted, served, refusal, served_of, log_of}
 use Rattle.aggregate.specs.Promises.{RefusedExactly, RefusedKept, NeverEleven, RoomEnough}
 
 -- what is known of an accepted request
@@ -62,6 +64,12 @@ module _ (s : Session) (r : Request) (len place : ℕ) where
           → served n (accepted (says sum s r).sum (says sum s r).log place (after sum 2 s r)) s ≡ refused (served n (accepted (says sum s r).sum (says sum s r).log place (after sum 2 s r)) s).outcome.refusal s
       go zero h = absurd (omega arith)
       go (suc n) h = refl
+
+-- what a refused request answers, whichever session it is said with
+pub refused_as : (s : Session) (r : Request) (len place : ℕ) {n : ℕ} {t : Session} → served_as (refused_outcome n) t ≡ served_of s r len place → 1 ≤ n → refused n s ≡ served_of s r len place
+refused_as s r len place {n} e some =
+    let is : n ≡ (served_of s r len place).outcome.refusal = ap (λ (v : Served). v.outcome.refusal) e in
+    ap (λ (k : ℕ). refused k s) is ∙ sym (refuses s r len place (omega arith))
 
 module _ (s : Session) (r : Request) (log : List ℕ) (place : ℕ) where
   pub logs : (served_of s r (length log) place).outcome.refusal ≡ 0 → log_of s r log place ≡ logged log place (says sum s r).log

@@ -1,5 +1,5 @@
 -- A list is refused as a whole or its requests are run, and what it comes to in either case.
-use mathlib.Core.Path.{◌≡◌, refl}
+use mathlib.Core.Path.{◌≡◌, refl, sym, ap, ◌∙◌}
 use mathlib.Core.Bool.{Bool, true, false, cond}
 use mathlib.Core.Logic.{◌≢◌}
 use mathlib.Core.List.{List}
@@ -10,14 +10,18 @@ use lib.IntN.{ℤ}
 use lib.ListN.{length}
 use borrow.Author.Tests.{eq-eqb, ne_eqb, le-leb, lt-leb, leb-true}
 use Rattle.requests.specs.Reading.{judged_of}
-use Rattle.requests.specs.declared.Judged.{Judged}
+use Rattle.requests.specs.Told.{Judged}
 use Rattle.requests.proofs.Refusals.{accepted, list_ruled_exactly, judged_whole}
 use Rattle.session.specs.Soundness.{sound, Sound}
 use Rattle.session.specs.declared.Session.{Session}
 use Rattle.session.proofs.Soundly.{sound_exactly}
 use Rattle.aggregate.specs.Running.{Running, list_refusal, ended_as, refused, end_of, ran_of, answers_of, run_log_of}
+use Rattle.std.specs.Prelude.{Some}
+use Rattle.refusal.specs.Numbers.{number}
+use Rattle.refusal.specs.declared.Refusal.{Refusal}
+use Rattle.refusal.proofs.Numbers.{numbers_within}
 use Rattle.aggregate.specs.inner.Turns.{Starting}
-use Rattle.aggregate.specs.declared.Ran.{Ran}
+use Rattle.aggregate.specs.Told.{Ran, told_stop}
 
 -- the chain of tests
 chain : ℕ → Bool → Bool → ℕ
@@ -55,6 +59,14 @@ module _ (s : Session) (list : List ℕ) (answers : List ℤ) (log : List ℕ) (
   unfolding ran_of answers_of run_log_of
   ends e n o h = rw (e, ← h) (refl, refl, refl)
 
+  -- where a request is refused, its index is the number of those done
+  pub stops : list_refusal s list (length answers) ≡ 0 → (r : Refusal) (k : ℕ) (o : Running) → o.totals.requests ≡ k → record { refusal = number r; reached = o } ≡ end_of s list answers log place
+      → Ends (told_stop (Some (record { index = k; refusal = r })) o.totals o.session) o.answers o.log
+  stops e r k o is h =
+      let i : cond (eqb (number r) 0) 0 o.totals.requests ≡ k = rw (ne_eqb (number r) 0 (λ z. omega (arith, z, (numbers_within r).0))) is in
+      let f = ends e (number r) o h in
+      (ap (λ (m : ℕ). record { refusal = number r; index = m; totals = o.totals; session = o.session }) (sym i) ∙ f.0, f.1, f.2)
+
   pub ends_whole : (n : ℕ) → list_refusal s list (length answers) ≡ n → n ≢ 0 → Ends (refused n s) answers log
   unfolding ran_of answers_of run_log_of
   ends_whole zero e d = absurd (d refl)
@@ -62,17 +74,24 @@ module _ (s : Session) (list : List ℕ) (answers : List ℤ) (log : List ℕ) (
 
   -- ---- the tests in their order
 
+  -- it is refused as a whole with n
+  abbrev pub Refuses : ℕ → Type 0
+  Refuses n = (refused n s ≡ ran_of s list answers log place) × (answers ≡ answers_of s list answers log place) × (log ≡ run_log_of s list answers log place) × (n ≡ list_refusal s list (length answers))
+
+  refuses_with : (n : ℕ) → list_refusal s list (length answers) ≡ n → n ≢ 0 → Refuses n
+  refuses_with n e d = let f = ends_whole n e d in (f.0, f.1, f.2, sym e)
+
   module _ (j : Judged) (told : j ≡ judged_of list) where
-    pub ends_unread : j.refusal ≢ 0 → Ends (refused j.refusal s) answers log
-    ends_unread d = ends_whole j.refusal (unfold list_refusal in rw (← told, ne_eqb j.refusal 0 d)) d
+    pub ends_unread : j.refusal ≢ 0 → Refuses j.refusal
+    ends_unread d = refuses_with j.refusal (unfold list_refusal in rw (← told, ne_eqb j.refusal 0 d)) d
 
     module _ (read : j.refusal ≡ 0) where
-      pub ends_few_places : length answers < j.combines → Ends (refused 10 s) answers log
-      ends_few_places h = ends_whole 10 (unfold list_refusal in rw (← told, eq-eqb j.refusal 0 read, lt-leb j.combines (length answers) h)) (λ e. omega arith)
+      pub ends_few_places : length answers < j.combines → Refuses 10
+      ends_few_places h = refuses_with 10 (unfold list_refusal in rw (← told, eq-eqb j.refusal 0 read, lt-leb j.combines (length answers) h)) (λ e. omega arith)
 
       module _ (enough : j.combines ≤ length answers) where
-        pub ends_unsound : sound 2 s ≡ false → Ends (refused 6 s) answers log
-        ends_unsound e = ends_whole 6 (unfold list_refusal in rw (← told, eq-eqb j.refusal 0 read, le-leb j.combines (length answers) enough, e)) (λ e. omega arith)
+        pub ends_unsound : sound 2 s ≡ false → Refuses 6
+        ends_unsound e = refuses_with 6 (unfold list_refusal in rw (← told, eq-eqb j.refusal 0 read, le-leb j.combines (length answers) enough, e)) (λ e. omega arith)
 
         pub starting : sound 2 s ≡ true → Starting s list (length answers) j.requests j.first
         starting e = record { accepted = unfold list_refusal in rw (← told, eq-eqb j.refusal 0 read, le-leb j.combines (length answers) enough, e); counted = rw told; begins = rw told }

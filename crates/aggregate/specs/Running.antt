@@ -11,10 +11,8 @@ use Rattle.session.specs.Soundness.{sound}
 use Rattle.session.specs.declared.Session.{Session}
 use Rattle.mechanism.specs.Requests.{says}
 use Rattle.aggregate.specs.Serving.{served_of, log_of}
-use Rattle.aggregate.specs.declared.Outcome.{Outcome}
-use Rattle.aggregate.specs.declared.Served.{Served}
+use Rattle.aggregate.specs.Told.{Outcome, Served, Ran}
 use Rattle.aggregate.specs.declared.Totals.{Totals}
-use Rattle.aggregate.specs.declared.Ran.{Ran}
 
 -- ---- the requests, one by one
 

@@ -8,8 +8,7 @@ use Rattle.session.specs.declared.Session.{Session}
 use Rattle.requests.specs.Lists.{node_of}
 use Rattle.mechanism.specs.Requests.{says, after}
 use Rattle.mechanism.specs.Refusals.{refusal_of}
-use Rattle.aggregate.specs.declared.Outcome.{Outcome}
-use Rattle.aggregate.specs.declared.Served.{Served}
+use Rattle.aggregate.specs.Told.{Outcome, Served}
 
 -- what a refused request answers: its number and zeros, and with them the session as it came
 abbrev pub refused_outcome : ℕ → Outcome

@@ -1,14 +1,16 @@
 // A request as an act at a node: what a combine and a write do in their turn.
 ghost use Rattle.std.specs.Prelude.{◌≡◌, ◌<◌, length};
-ghost use Rattle.requests.specs.Lists.{node_of, Small};
-ghost use Rattle.mechanism.specs.Views.{view_of};
+ghost use Rattle.requests.specs.Lists.{Small};
+ghost use Rattle.mechanism.specs.Views.{view};
 ghost use Rattle.trace.specs.inner.Traces as traces;
 ghost use Rattle.aggregate.specs.inner.Afters.{Climbing};
 ghost use Rattle.aggregate.specs.inner.Acts as spec;
 
-use crate::ask::Asked;
-use crate::{ask, raise, reads, spread};
+use crate::links::Links;
+use crate::{ask, raise, spread};
 use requests::Request;
+use session::Session;
+use trace::Trace;
 
 #[derive(Clone, Copy)]
 pub enum Act {
@@ -17,96 +19,51 @@ pub enum Act {
 }
 
 // The node of a request, and what it does there.
-pub fn node_of(request: Request) -> usize
-    ensures { result ≡ node_of request }
+pub fn of(request: Request) -> (usize, Act)
+    ensures { spec.request_of result.0 result.1 ≡ request }
 {
     match request {
-        Request::Combine(x) => reads::node(x),
-        Request::Write(x, _) => reads::node(x),
-    }
-}
-
-pub fn act_of(request: Request) -> Act
-    ensures { spec.request_of (node_of request) result ≡ request }
-{
-    match request {
-        Request::Combine(_) => Act::Combine,
-        Request::Write(_, value) => Act::Write(value),
+        Request::Combine(x) => (usize::from(x), Act::Combine),
+        Request::Write(x, value) => (usize::from(x), Act::Write(value)),
     }
 }
 
 // A write sets its value before its walk.
-pub fn begin(act: Act, x: usize, values: &mut [i32; 256])
-    requires { (x < 256) × (length values.old ≡ 256) }
-    ensures { (values.new ≡ spec.begun act x values.old) × Small (spec.request_of x act) }
+pub fn begin(act: Act, session: &mut Session, x: usize)
+    requires { x < 256 }
+    ensures { (session.new ≡ spec.begun_of session.old x act) × Small (spec.request_of x act) }
 {
     match act {
         Act::Combine => {}
-        Act::Write(value) => {
-            values[x] = value;
+        Act::Write(value) => session.values[x] = value,
+    }
+}
+
+// The walk, from an empty trace, and its sum.
+pub fn walk(act: Act, session: &Session, links: &Links, trace: &mut Trace, x: usize) -> i64
+    requires { spec.Walkable (view session.now) links.now.first links.now.next x }
+    ensures { spec.Walked act (view session.now) x result (traces.trace trace.old.numbers 0) trace.new }
+{
+    trace.len = 0;
+    match act {
+        Act::Combine => {
+            let count = usize::from(session.tree.count);
+            ask::ask(session, links, trace, x, x, count)
+        }
+        Act::Write(_) => {
+            spread::from(session, links, trace, x);
+            0
         }
     }
 }
 
-// The walk, from an empty trace. Where something comes after each neighbour, it is laid by in `later`.
-pub fn walk<'a>(
-    act: Act,
-    count: usize,
-    parents: &'a [u8; 256],
-    first: &'a [u16; 256],
-    next: &'a [u16; 256],
-    values: &'a [i32; 256],
-    up_lease: &'a [u8; 256],
-    up_cache: &'a [i64; 256],
-    down_lease: &'a [u8; 256],
-    down_cache: &'a [i64; 256],
-    later_up: &mut [i64; 256],
-    later_down: &mut [i64; 256],
-    trace: &mut [u64; 510],
-    x: usize,
-) -> Asked
-    requires { spec.Walkable (view_of count parents.now values.now up_lease.now up_cache.now down_lease.now down_cache.now) first.now next.now x }
-    ensures { spec.Walked act (view_of count parents.now values.now up_lease.now up_cache.now down_lease.now down_cache.now) x result.sum
-        (traces.trace trace.old 0)
-        (traces.trace trace.new result.len) }
-{
-    full(trace);
-    match act {
-        Act::Combine => ask::ask(
-            count, parents, first, next, values, up_lease, up_cache, down_lease, down_cache, trace,
-            0, x, x, count,
-        ),
-        Act::Write(_) => Asked {
-            sum: 0,
-            len: spread::from(
-                count, parents, first, next, values, up_lease, up_cache, down_lease, down_cache,
-                later_up, later_down, trace, x,
-            ),
-        },
-    }
-}
-
 // A combine raises every pair that points to its node.
-pub fn settle(
-    act: Act,
-    count: usize,
-    parents: &[u8; 256],
-    x: usize,
-    up: &mut [u8; 256],
-    down: &mut [u8; 256],
-)
-    requires { Climbing parents.now count x up.old down.old }
-    ensures { (up.new ≡ spec.up_settled act parents.now count x up.old) × (down.new ≡ spec.down_settled act parents.now count x down.old) }
+pub fn settle(act: Act, session: &mut Session, x: usize)
+    requires { Climbing session.old.tree.parents session.old.tree.count x session.old.up.lease session.old.down.lease }
+    ensures { session.new ≡ spec.settled_of session.old x act }
 {
     match act {
-        Act::Combine => raise::raise(count, parents, x, up, down),
+        Act::Combine => raise::raise(session, x),
         Act::Write(_) => {}
     }
-}
-
-// That a trace has room for 510 is known by its type, and to the proof once a slice is made of it.
-fn full(trace: &[u64; 510])
-    ensures { length trace.now ≡ 510 }
-{
-    let slice: &[u64] = trace;
 }

@@ -1,33 +1,21 @@
-// What a refused request answers.
+// Whether a request is refused before its walk.
 ghost use Rattle.std.specs.Prelude.{◌≡◌};
-ghost use Rattle.aggregate.specs.Serving.{refused_outcome};
+ghost use Rattle.refusal.specs.Numbers.{refusal_in};
 ghost use Rattle.aggregate.specs.inner.Acts.{early_refusal};
 
-use crate::Outcome;
+use refusal::Refusal;
 use session::Session;
 
-// The refusal of a request before its walk, 0 for none: 9 is known after the walk.
+// Refusals: 7 and 8. 9 is known after the walk.
 #[tactic(auto, unfolding(crate::specs::inner::Acts::early_refusal))]
-pub fn early_refusal(count: u16, accepted: u32, x: usize) -> u8
-    ensures { result ≡ early_refusal count accepted x }
+pub fn early(session: &Session, x: usize) -> Result<(), Refusal>
+    ensures { refusal_in result ≡ early_refusal session.now.tree.count session.now.accepted x }
 {
-    if count as usize <= x {
-        return 7;
+    if usize::from(session.tree.count) <= x {
+        return Err(Refusal::NoNode);
     }
-    if Session::LIMIT <= accepted {
-        return 8;
+    if Session::LIMIT <= session.accepted {
+        return Err(Refusal::Limit);
     }
-    0
-}
-
-// What a refused request answers: the number of the refusal and zeros.
-pub fn refused(refusal: u8) -> Outcome
-    ensures { result ≡ refused_outcome refusal }
-{
-    Outcome {
-        refusal,
-        answer: 0,
-        messages: 0,
-        next: 0,
-    }
+    Ok(())
 }

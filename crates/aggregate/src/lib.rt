@@ -1,17 +1,15 @@
 // Sessions served: combine, write, and running a list of them.
 //
-// Every public function takes whatever it is handed and has one outcome. A refused call answers its
-// number and zeros, and leaves the session and all lent memory as they were; a list that stops midway
-// keeps what its earlier requests did.
+// Every public function takes whatever it is handed and has one outcome. A refused call leaves all lent
+// memory as it was; a list that stops midway keeps what its earlier requests did.
 #![tactic(auto)]
 
 mod act; // what a combine and a write do in their turn
 mod apply; // what messages make of a session
 mod ask; // the walk of a combine
-mod judge; // what a refused request answers
+mod judge; // whether a request is refused before its walk
 mod later; // what comes after each neighbour
 mod links; // each node's neighbours, one after the other
-mod parts; // a session made of its parts
 mod raise; // a combine raises every pair that points to its node
 mod reads; // what the walks read of a session
 mod serve; // one request, served in place
@@ -19,25 +17,26 @@ mod spread; // the walk of a write
 mod turns; // the requests of a list, each in its turn
 
 ghost use Rattle.std.specs.Prelude.{◌≡◌, length};
+ghost use Rattle.refusal.specs.Numbers.{refusal_in};
 ghost use Rattle.requests.specs.declared.Request.TheVariants.{Combine, Write};
 ghost use Rattle.aggregate.specs.Serving.{served_of, log_of};
-ghost use Rattle.aggregate.specs.Running.{ran_of, answers_of, run_log_of};
+ghost use Rattle.aggregate.specs.Running.{list_refusal, ran_of, answers_of, run_log_of};
+ghost use Rattle.aggregate.specs.Told.{told_served, told_ran};
 
 use act::Act;
+use refusal::Refusal;
 use session::Session;
 
-// What a request answers: 0, the answer (0 for a write), its messages and the next log place; or the
-// number of a refusal and zeros.
+// What a request answers: the answer (0 for a write), its messages and the next log place.
 #[repr(C)]
-#[derive(Clone, Copy)]
+#[derive(Clone, Copy, Debug, PartialEq, Eq)]
 pub struct Outcome {
-    pub refusal: u8,
     pub answer: i64,
     pub messages: u32,
     pub next: usize,
 }
 
-// The outcome of a request, and the session after; as it came where the request is refused.
+// The outcome of a request, and the session after.
 #[repr(C)]
 #[derive(Clone, Copy)]
 pub struct Served {
@@ -47,7 +46,7 @@ pub struct Served {
 
 // How far a list came: requests done, answers stored, messages, and the next log place.
 #[repr(C)]
-#[derive(Clone, Copy)]
+#[derive(Clone, Copy, Debug, PartialEq, Eq)]
 pub struct Totals {
     pub requests: usize,
     pub answers: usize,
@@ -55,14 +54,18 @@ pub struct Totals {
     pub next: usize,
 }
 
-// What running a list answers: 0, or the number of the refusal that ended it; the index of the
-// request that was refused, 0 where none was; the totals so far, zeros where the list is refused as a
-// whole; and the session after.
-#[repr(C)]
+// The request of a list that was refused: its index, which is the number of those done, and why.
+#[derive(Clone, Copy, Debug, PartialEq, Eq)]
+pub struct Stop {
+    pub index: usize,
+    pub refusal: Refusal,
+}
+
+// What running a list answers: the request at which it stopped, if one was refused; the totals so far;
+// and the session after.
 #[derive(Clone, Copy)]
 pub struct Ran {
-    pub refusal: u8,
-    pub index: usize,
+    pub stopped: Option<Stop>,
     pub totals: Totals,
     pub session: Session,
 }
@@ -70,15 +73,21 @@ pub struct Ran {
 // A combine at node x, logged from place on. Refusals: 6 the session is unsound, 7 the node is not in
 // the tree, 8 1,048,576 requests are already accepted, 9 the place is past the usable log or there
 // are too few bits for all records.
-pub fn combine(session: Session, x: usize, log: &mut [u8], place: usize) -> Served
-    ensures { (result ≡ served_of session (Combine x) (length log.old) place) × (log.new ≡ log_of session (Combine x) log.old place) }
+pub fn combine(session: Session, x: usize, log: &mut [u8], place: usize) -> Result<Served, Refusal>
+    ensures { (told_served session result ≡ served_of session (Combine x) (length log.old) place) × (log.new ≡ log_of session (Combine x) log.old place) }
 {
     serve::whole(session, x, Act::Combine, log, place)
 }
 
 // A write of a value at node x, logged from place on. Refusals: as for a combine.
-pub fn write(session: Session, x: usize, value: i32, log: &mut [u8], place: usize) -> Served
-    ensures { (result ≡ served_of session (Write x value) (length log.old) place) × (log.new ≡ log_of session (Write x value) log.old place) }
+pub fn write(
+    session: Session,
+    x: usize,
+    value: i32,
+    log: &mut [u8],
+    place: usize,
+) -> Result<Served, Refusal>
+    ensures { (told_served session result ≡ served_of session (Write x value) (length log.old) place) × (log.new ≡ log_of session (Write x value) log.old place) }
 {
     serve::whole(session, x, Act::Write(value), log, place)
 }
@@ -87,29 +96,24 @@ pub fn write(session: Session, x: usize, value: i32, log: &mut [u8], place: usiz
 // the other in the answer places; up to the first request that is refused, as combine and write
 // refuse it. Refusals of the whole list: those of `requests::judge`, 10 fewer answer places than
 // combines, 6 the session is unsound. That the session is sound is tested once.
-pub fn run(session: Session, list: &[u8], answers: &mut [i64], log: &mut [u8], place: usize) -> Ran
-    ensures { (result ≡ ran_of session list.now answers.old log.old place)
+pub fn run(
+    session: Session,
+    list: &[u8],
+    answers: &mut [i64],
+    log: &mut [u8],
+    place: usize,
+) -> Result<Ran, Refusal>
+    ensures { (told_ran session result ≡ ran_of session list.now answers.old log.old place)
         × (answers.new ≡ answers_of session list.now answers.old log.old place)
-        × (log.new ≡ run_log_of session list.now answers.old log.old place) }
+        × (log.new ≡ run_log_of session list.now answers.old log.old place)
+        × (refusal_in result ≡ list_refusal session list.now (length answers.old)) }
 {
-    let judged = requests::judge(list);
-    if judged.refusal != 0 {
-        return turns::refused(judged.refusal, session);
-    }
+    let judged = requests::judge(list)?;
     if answers.len() < judged.combines {
-        return turns::refused(10, session);
+        return Err(Refusal::FewAnswers);
     }
-    let sound = session.is_sound();
-    if !sound {
-        return turns::refused(6, session);
+    if !session.is_sound() {
+        return Err(Refusal::Unsound);
     }
-    turns::whole(
-        session,
-        list,
-        judged.requests,
-        judged.first,
-        answers,
-        log,
-        place,
-    )
+    Ok(turns::whole(session, list, judged, answers, log, place))
 }

@@ -1,28 +1,25 @@
 // A combine raises every pair that points to its node.
 ghost use Rattle.std.specs.Prelude.{◌≡◌};
-ghost use Rattle.mechanism.specs.Applying.{up_raised, down_raised};
-ghost use Rattle.aggregate.specs.inner.Afters.{Climbing};
+ghost use Rattle.mechanism.specs.Requests.{links_of};
+ghost use Rattle.mechanism.specs.Applying.{raised};
+ghost use Rattle.aggregate.specs.inner.Afters.{Climbing, paired};
 
-use crate::reads;
 use rule::Rule;
+use session::Session;
 
 // Every pair that points to x gets the number that a combine gives it. `at` is the next node on the way
 // from x to the root: below it lies x, and below no other node of its number or more.
-pub fn raise(count: usize, parents: &[u8; 256], x: usize, up: &mut [u8; 256], down: &mut [u8; 256])
-    requires { Climbing parents.now count x up.old down.old }
-    ensures { (up.new ≡ up_raised parents.now count 2 x up.old) × (down.new ≡ down_raised parents.now count 2 x down.old) }
+pub fn raise(session: &mut Session, x: usize)
+    requires { Climbing session.old.tree.parents session.old.tree.count x session.old.up.lease session.old.down.lease }
+    ensures { session.new ≡ paired session.old (raised session.old.tree.parents session.old.tree.count 2 x (links_of session.old)) }
 {
     let mut at = x;
-    let mut i = count;
-    while 1 < i {
-        i -= 1;
+    for i in (1..usize::from(session.tree.count)).rev() {
         if i == at {
-            let number = down[i];
-            down[i] = Rule::after_combines(number, 1);
-            at = reads::node(parents[i]);
+            session.down.lease[i] = Rule::after_combines(session.down.lease[i], 1);
+            at = usize::from(session.tree.parents[i]);
         } else {
-            let number = up[i];
-            up[i] = Rule::after_combines(number, 1);
+            session.up.lease[i] = Rule::after_combines(session.up.lease[i], 1);
         }
     }
 }

@@ -1,64 +1,39 @@
 // What the walks read of a session.
-ghost use Rattle.std.specs.Prelude.{◌≡◌, ◌<◌, pos, ◌+ℤ◌, get_or};
-ghost use Rattle.std.specs.Int.{w64};
-ghost use Rattle.std.proofs.Common.{SFits};
-ghost use Rattle.session.specs.Holding.{pair_at};
+ghost use Rattle.std.specs.Prelude.{◌≡◌, ◌<◌};
+ghost use Rattle.session.specs.Holding.{pair_at, lease_of, cache_of, value_of};
+
+use session::Session;
+
+// What is held of the pair (u,v): it stands at the larger of the two, that from child to parent in `up`
+// and that from parent to child in `down`.
+#[tactic(auto, unfolding(session::specs::Holding::pair_at))]
+pub fn entry<T: Copy>(up: &[T; 256], down: &[T; 256], u: usize, v: usize) -> T
+    requires { (u < 256) × (v < 256) }
+    ensures { (d : T) → result ≡ pair_at d up.now down.now u v }
+{
+    if v < u { up[u] } else { down[v] }
+}
 
 // The lease number of the pair (u,v).
-pub fn lease(up: &[u8; 256], down: &[u8; 256], u: usize, v: usize) -> u8
+pub fn lease(session: &Session, u: usize, v: usize) -> u8
     requires { (u < 256) × (v < 256) }
-    ensures { result ≡ pair_at 0 up.now down.now u v }
+    ensures { result ≡ lease_of session.now u v }
 {
-    if v < u {
-        return up[u];
-    }
-    down[v]
+    entry(&session.up.lease, &session.down.lease, u, v)
 }
 
 // The cache of the pair (u,v): what v knows of u's side.
-pub fn cache(up: &[i64; 256], down: &[i64; 256], u: usize, v: usize) -> i64
+pub fn cache(session: &Session, u: usize, v: usize) -> i64
     requires { (u < 256) × (v < 256) }
-    ensures { result ≡ pair_at (pos 0) up.now down.now u v }
+    ensures { result ≡ cache_of session.now u v }
 {
-    if v < u {
-        return up[u];
-    }
-    down[v]
+    entry(&session.up.cache, &session.down.cache, u, v)
 }
 
 // The value of node u.
-pub fn value(values: &[i32; 256], u: usize) -> i64
+pub fn value(session: &Session, u: usize) -> i64
     requires { u < 256 }
-    ensures { result ≡ get_or values.now u (pos 0) }
+    ensures { result ≡ value_of session.now u }
 {
-    wide(values[u])
-}
-
-fn wide(x: i32) -> i64
-    ensures { result ≡ x }
-{
-    x as i64
-}
-
-// The operation that joins values: the sum.
-pub fn plus(a: i64, b: i64) -> i64
-    requires { SFits w64 (a +ℤ b) }
-    ensures { result ≡ a +ℤ b }
-{
-    a + b
-}
-
-// A node's number as it is logged.
-pub fn byte(u: usize) -> u8
-    requires { u < 256 }
-    ensures { result ≡ u }
-{
-    u as u8
-}
-
-// A node's number as an index.
-pub fn node(x: u8) -> usize
-    ensures { (result ≡ x) × (result < 256) }
-{
-    x as usize
+    i64::from(session.values[u])
 }

@@ -1,122 +1,79 @@
-// The walk of a write: reads a session's arrays, and adds messages to a lent trace.
+// The walk of a write: reads a session, and adds messages to a lent trace.
 ghost use Rattle.std.specs.Prelude.{◌≡◌, true, ◌<◌, ◌≤◌};
 ghost use Rattle.tree.specs.Operation as operation;
-ghost use Rattle.session.specs.Holding.{pair_at};
-ghost use Rattle.mechanism.specs.Views.{view_of};
+ghost use Rattle.session.specs.Holding.{lease_of};
+ghost use Rattle.mechanism.specs.Views.{view};
 ghost use Rattle.mechanism.specs.Spreading.{write};
 ghost use Rattle.trace.specs.inner.Traces as traces;
 ghost use Rattle.walk.specs.inner.Links.{Linked};
 ghost use Rattle.walk.specs.inner.Telling.{SilentUpTo, Spreading, Telling, Spread, Told};
 ghost use Rattle.aggregate.specs.inner.Acts.{Walkable};
 
-use crate::ask::Asked;
+use crate::later::Later;
+use crate::links::Links;
 use crate::{later, links, reads};
 use messages::Message;
+use session::Session;
+use trace::Trace;
 
-// The walk of a write at x, whose value is set, from an empty trace.
-pub fn from<'a>(
-    count: usize,
-    parents: &'a [u8; 256],
-    first: &'a [u16; 256],
-    next: &'a [u16; 256],
-    values: &'a [i32; 256],
-    up_lease: &'a [u8; 256],
-    up_cache: &'a [i64; 256],
-    down_lease: &'a [u8; 256],
-    down_cache: &'a [i64; 256],
-    later_up: &mut [i64; 256],
-    later_down: &mut [i64; 256],
-    trace: &mut [u64; 510],
-    x: usize,
-) -> usize
-    requires { Walkable (view_of count parents.now values.now up_lease.now up_cache.now down_lease.now down_cache.now) first.now next.now x }
-    ensures { traces.trace trace.new result
-        ≡ traces.pushed_all (write operation.sum (view_of count parents.now values.now up_lease.now up_cache.now down_lease.now down_cache.now) x) (traces.trace trace.old 0) }
+// The walk of a write at x, whose value is set.
+pub fn from(session: &Session, links: &Links, trace: &mut Trace, x: usize)
+    requires { Walkable (view session.now) links.now.first links.now.next x }
+    ensures { trace.new ≡ traces.pushed_all (write operation.sum (view session.now) x) trace.old }
 {
-    if is_silent(count, parents, first, next, up_lease, down_lease, x) {
-        return 0;
+    if is_silent(session, links, x) {
+        return;
     }
-    later::of(
-        count, parents, values, up_lease, up_cache, down_lease, down_cache, x, later_up, later_down,
-    );
-    spread(
-        count, parents, first, next, values, up_lease, up_cache, down_lease, down_cache, later_up,
-        later_down, trace, 0, x, x, 0, count,
-    )
+    let later = Later::of(session, x);
+    let count = usize::from(session.tree.count);
+    spread(session, links, &later, trace, x, x, 0, count);
 }
 
 // Whether no neighbour of x holds a lease, so that x tells nobody.
-fn is_silent<'a>(
-    count: usize,
-    parents: &'a [u8; 256],
-    first: &'a [u16; 256],
-    next: &'a [u16; 256],
-    up_lease: &'a [u8; 256],
-    down_lease: &'a [u8; 256],
-    x: usize,
-) -> bool
-    requires { (x < count) × ((count ≤ 256) × Linked count parents.now first.now next.now) }
-    ensures { result ≡ true → SilentUpTo count parents.now (pair_at 0 up_lease.now down_lease.now) x count }
+fn is_silent(session: &Session, links: &Links, x: usize) -> bool
+    requires { (x < session.now.tree.count) × ((session.now.tree.count ≤ 256) × Linked session.now.tree.count session.now.tree.parents links.now.first links.now.next) }
+    ensures { result ≡ true → SilentUpTo session.now.tree.count session.now.tree.parents (lease_of session.now) x session.now.tree.count }
 {
-    let mut k = links::first(count, parents, first, next, x);
+    let count = usize::from(session.tree.count);
+    let mut k = links.first(&session.tree, x);
     while k < count {
         let w = links::turn(count, x, k);
-        if reads::lease(up_lease, down_lease, x, w) != 0 {
+        if reads::lease(session, x, w) != 0 {
             return false;
         }
-        k = links::next(count, parents, first, next, x, k);
+        k = links.next(&session.tree, x, k);
     }
     true
 }
 
 // u, told by a neighbour or by nobody, tells those of its other neighbours in turn that hold a lease.
 #[cycle(spread_tell)]
-fn spread<'a>(
-    count: usize,
-    parents: &'a [u8; 256],
-    first: &'a [u16; 256],
-    next: &'a [u16; 256],
-    values: &'a [i32; 256],
-    up_lease: &'a [u8; 256],
-    up_cache: &'a [i64; 256],
-    down_lease: &'a [u8; 256],
-    down_cache: &'a [i64; 256],
-    later_up: &'a [i64; 256],
-    later_down: &'a [i64; 256],
-    trace: &mut [u64; 510],
-    len: usize,
+fn spread(
+    session: &Session,
+    links: &Links,
+    later: &Later,
+    trace: &mut Trace,
     u: usize,
     from: usize,
     told: i64,
     left: usize,
-) -> usize
-    requires { Spreading (view_of count parents.now values.now up_lease.now up_cache.now down_lease.now down_cache.now) first.now next.now later_up.now later_down.now u from told }
-    ensures { Spread (view_of count parents.now values.now up_lease.now up_cache.now down_lease.now down_cache.now) left u from told
-        (traces.trace trace.old len)
-        (traces.trace trace.new result) }
+)
+    requires { Spreading (view session.now) links.now.first links.now.next later.now.up later.now.down u from told }
+    ensures { Spread (view session.now) left u from told trace.old trace.new }
 {
-    let mut sum = reads::plus(reads::value(values, u), told);
-    let mut at = len;
+    let mut sum = reads::value(session, u) + told;
     if left == 0 {
-        return at;
+        return;
     }
-    let mut k = links::first(count, parents, first, next, u);
+    let count = usize::from(session.tree.count);
+    let mut k = links.first(&session.tree, u);
     while k < count {
         let w = links::turn(count, u, k);
-        let got = tell(
-            count,
-            parents,
-            first,
-            next,
-            values,
-            up_lease,
-            up_cache,
-            down_lease,
-            down_cache,
-            later_up,
-            later_down,
+        sum = tell(
+            session,
+            links,
+            later,
             trace,
-            at,
             u,
             from,
             told,
@@ -124,74 +81,43 @@ fn spread<'a>(
             w,
             sum,
         );
-        sum = got.sum;
-        at = got.len;
-        k = links::next(count, parents, first, next, u, k);
+        k = links.next(&session.tree, u, k);
     }
-    at
 }
 
 // One neighbour w of u: left out if it told u, told if it holds a lease. `sum` is u's value, what u
 // was told and what it knows of the neighbours before w; what it knows of those after w was laid by.
+// Answers the sum with what u knows of w.
 #[cycle(spread_tell)]
-fn tell<'a>(
-    count: usize,
-    parents: &'a [u8; 256],
-    first: &'a [u16; 256],
-    next: &'a [u16; 256],
-    values: &'a [i32; 256],
-    up_lease: &'a [u8; 256],
-    up_cache: &'a [i64; 256],
-    down_lease: &'a [u8; 256],
-    down_cache: &'a [i64; 256],
-    later_up: &'a [i64; 256],
-    later_down: &'a [i64; 256],
-    trace: &mut [u64; 510],
-    len: usize,
+fn tell(
+    session: &Session,
+    links: &Links,
+    later: &Later,
+    trace: &mut Trace,
     u: usize,
     from: usize,
     told: i64,
     left: usize,
     w: usize,
     sum: i64,
-) -> Asked
-    requires { Telling (view_of count parents.now values.now up_lease.now up_cache.now down_lease.now down_cache.now) first.now next.now later_up.now later_down.now u from told w sum }
-    ensures { Told (view_of count parents.now values.now up_lease.now up_cache.now down_lease.now down_cache.now) left u from told w sum
-        (traces.trace trace.old len) result.sum
-        (traces.trace trace.new result.len) }
+) -> i64
+    requires { Telling (view session.now) links.now.first links.now.next later.now.up later.now.down u from told w sum }
+    ensures { Told (view session.now) left u from told w sum trace.old result trace.new }
 {
     if w == from {
-        return Asked { sum, len };
+        return sum;
     }
-    let kept = reads::cache(up_cache, down_cache, w, u);
-    let before = reads::plus(
-        sum,
-        later::known(reads::lease(up_lease, down_lease, w, u), kept),
-    );
-    let number = reads::lease(up_lease, down_lease, u, w);
+    let kept = reads::cache(session, w, u);
+    let before = sum + later::known(reads::lease(session, w, u), kept);
+    let number = reads::lease(session, u, w);
     if number == 0 {
-        return Asked { sum: before, len };
+        return before;
     }
-    let after = reads::cache(later_up, later_down, u, w);
-    let total = reads::plus(sum, after);
-    let updated = trace::push(
-        trace,
-        len,
-        Message::Update(reads::byte(u), reads::byte(w), total),
-    );
-    let end = spread(
-        count, parents, first, next, values, up_lease, up_cache, down_lease, down_cache, later_up,
-        later_down, trace, updated, w, u, total, left,
-    );
+    let total = sum + later.after(u, w);
+    trace.push(Message::Update(u as u8, w as u8, total));
+    spread(session, links, later, trace, w, u, total, left);
     if number == 1 {
-        let freed = trace::push(trace, end, Message::Release(reads::byte(w), reads::byte(u)));
-        return Asked {
-            sum: before,
-            len: freed,
-        };
+        trace.push(Message::Release(w as u8, u as u8));
     }
-    Asked {
-        sum: before,
-        len: end,
-    }
+    before
 }

@@ -1,128 +1,159 @@
 // One call, many times over, each time on the same session.
-use aggregate::{Outcome, Ran};
+ghost use Rattle.std.specs.Prelude.{◌<◌, ◌≤◌};
+
+use aggregate::{Ran, Served};
+use refusal::Refusal;
 use session::Session;
 
-// A sum of what came of a call that was made so many times. Its node is the tree's last.
-pub fn sum(letter: u8, times: u64, fresh: Session, log: &mut [u8]) -> u64 {
-    let x = last(fresh.tree.count);
-    let session = before(letter, fresh, x, log);
-    if letter == b'L' {
-        return combines(times, session, x, log);
-    }
-    if letter == b'V' {
-        return writes(times, session, x, log);
-    }
-    requests(letter, times, session, x, log)
+// What is called, at the tree's last node.
+#[derive(Clone, Copy)]
+pub enum Call {
+    // a combine on a fresh session
+    Cold,
+    // a combine that takes no messages
+    Free,
+    // a write that takes no messages
+    Silent,
+    // a combine at node 0, then a write
+    Both,
+    // a list of 64 free combines
+    Combines,
+    // a list of 64 silent writes
+    Writes,
+    // a combine on a session that has accepted a request
+    Other,
 }
 
-fn last(count: u16) -> usize {
-    if 0 < count {
-        return (count - 1) as usize;
+// The call of a letter.
+impl From<u8> for Call {
+    fn from(letter: u8) -> Call {
+        match letter {
+            b'C' => Call::Cold,
+            b'F' => Call::Free,
+            b'S' => Call::Silent,
+            b'W' => Call::Both,
+            b'L' => Call::Combines,
+            b'V' => Call::Writes,
+            _ => Call::Other,
+        }
     }
-    0
+}
+
+// A sum of what came of a call that was made so many times.
+pub fn sum(call: Call, times: u32, fresh: Session, log: &mut [u8]) -> u32 {
+    let x = usize::from(fresh.tree.count.saturating_sub(1));
+    let session = before(call, fresh, x, log);
+    match call {
+        Call::Combines => {
+            let mut list = [0u8; 74];
+            fill(&mut list, 9, x as u64 % 256);
+            lists(times, &session, &list, log)
+        }
+        Call::Writes => {
+            let mut list = [0u8; 330];
+            fill(&mut list, 41, (256 + x as u64 % 256) * 4294967296 + 7);
+            lists(times, &session, &list, log)
+        }
+        _ => requests(call, times, &session, x, log),
+    }
 }
 
 // The session to which each call is made.
-fn before(letter: u8, fresh: Session, x: usize, log: &mut [u8]) -> Session {
-    if letter == b'C' {
-        return fresh;
+fn before(call: Call, fresh: Session, x: usize, log: &mut [u8]) -> Session {
+    match call {
+        Call::Cold => fresh,
+        Call::Free | Call::Combines => combined(&fresh, x, log),
+        Call::Both => Session {
+            accepted: 5,
+            ..fresh
+        },
+        Call::Silent | Call::Writes | Call::Other => Session {
+            accepted: 1,
+            ..fresh
+        },
     }
-    if letter == b'F' {
-        return aggregate::combine(fresh, x, log, 0).session;
-    }
-    if letter == b'L' {
-        return aggregate::combine(fresh, x, log, 0).session;
-    }
-    if letter == b'W' {
-        return accepted(fresh, 5);
-    }
-    accepted(fresh, 1)
 }
 
-fn accepted(session: Session, accepted: u32) -> Session {
-    let mut session = session;
-    session.accepted = accepted;
-    session
+// The session after a combine, or as it was where that is refused.
+fn combined(session: &Session, x: usize, log: &mut [u8]) -> Session {
+    match aggregate::combine(*session, x, log, 0) {
+        Ok(served) => served.session,
+        Err(_) => *session,
+    }
 }
 
-// ---- one request
-
-fn requests(letter: u8, times: u64, session: Session, x: usize, log: &mut [u8]) -> u64 {
-    let mut sum: u64 = 0;
+// Requests and lists have a loop each: one that takes the call as a closure was tried, and a free
+// combine then took a tenth to a half longer.
+fn requests(call: Call, times: u32, session: &Session, x: usize, log: &mut [u8]) -> u32 {
+    let mut sum = 0;
     for _ in 0..times {
-        sum = mixed(sum, said(after(letter, session, x, log)));
+        sum = mixed(sum, request(call, session, x, log));
     }
     sum
 }
 
-// The request of a letter: C a cold combine, F a free one, S a silent write, W a combine at 0 and a
-// write.
-fn after(letter: u8, session: Session, x: usize, log: &mut [u8]) -> Outcome {
-    if letter == b'S' {
-        return aggregate::write(session, x, 7, log, 0).outcome;
+fn lists(times: u32, session: &Session, list: &[u8], log: &mut [u8]) -> u32 {
+    let mut sum = 0;
+    for _ in 0..times {
+        sum = mixed(sum, run(session, list, log));
     }
-    if letter == b'W' {
-        let asked = aggregate::combine(session, 0, log, 0);
-        return aggregate::write(asked.session, x, 7, log, 0).outcome;
-    }
-    aggregate::combine(session, x, log, 0).outcome
+    sum
 }
 
-fn said(outcome: Outcome) -> u64 {
-    outcome.refusal as u64 + outcome.messages as u64 + low(outcome.answer) % 4294967296
-}
-
-fn low(answer: i64) -> u64 {
-    let twos::Encoded::Number(n) = twos::encode(answer, 64) else {
-        return 0;
+// What came of one request.
+fn request(call: Call, session: &Session, x: usize, log: &mut [u8]) -> u32 {
+    let served = match call {
+        Call::Silent => aggregate::write(*session, x, 7, log, 0),
+        Call::Both => aggregate::write(combined(session, 0, log), x, 7, log, 0),
+        _ => aggregate::combine(*session, x, log, 0),
     };
-    n
+    match served {
+        Ok(Served { outcome, .. }) => {
+            low(outcome.answer.cast_unsigned()).wrapping_add(outcome.messages)
+        }
+        Err(refusal) => number(refusal),
+    }
 }
 
-// ---- a list of 64 requests in one call
-
-// A sum of what came of the letter L: a list of combines, 9 bits each.
-fn combines(times: u64, session: Session, x: usize, log: &mut [u8]) -> u64 {
-    let mut list = [0u8; 74];
-    fill(9, (x % 256) as u64, &mut list);
-    lists(times, session, &list, log)
-}
-
-// A sum of what came of the letter V: a list of writes of 7, 41 bits each.
-fn writes(times: u64, session: Session, x: usize, log: &mut [u8]) -> u64 {
-    let mut list = [0u8; 330];
-    fill(41, (256 + x as u64 % 256) * 4294967296 + 7, &mut list);
-    lists(times, session, &list, log)
+// What came of a list.
+fn run(session: &Session, list: &[u8], log: &mut [u8]) -> u32 {
+    match aggregate::run(*session, list, &mut [0; 64], log, 0) {
+        Ok(
+            Ran {
+                stopped,
+                totals,
+                ..
+            },
+        ) => {
+            let done = low(totals.requests as u64).wrapping_add(totals.messages);
+            stopped.map_or(done, |stop| done.wrapping_add(number(stop.refusal)))
+        }
+        Err(refusal) => number(refusal),
+    }
 }
 
 // Makes a list of 64 requests of so many bits.
-fn fill(width: usize, request: u64, list: &mut [u8]) {
+fn fill(list: &mut [u8], width: usize, request: u64)
+    requires some { 0 < width }
+    requires few { width ≤ 64 }
+{
     fields::put(list, 0, 13, 64);
-    let mut place: usize = 13;
-    for _ in 0..64 {
+    for place in (13..13 + 64 * width).step_by(width) {
         fields::put(list, place, width, request);
-        place = place % 4096 + width % 64;
     }
 }
 
-fn lists(times: u64, session: Session, list: &[u8], log: &mut [u8]) -> u64 {
-    let mut sum: u64 = 0;
-    for _ in 0..times {
-        sum = mixed(sum, done(run(session, list, log)));
-    }
-    sum
+fn number(refusal: Refusal) -> u32 {
+    u32::from(u8::from(refusal))
 }
 
-fn run(session: Session, list: &[u8], log: &mut [u8]) -> Ran {
-    let mut answers = [0i64; 64];
-    aggregate::run(session, list, &mut answers, log, 0)
+// The last 32 bits of a number.
+fn low(x: u64) -> u32 {
+    (x % 4294967296) as u32
 }
 
-fn done(ran: Ran) -> u64 {
-    ran.refusal as u64 + ran.totals.messages as u64 + ran.totals.requests as u64 % 4294967296
-}
-
-// A sum that tells where each of its parts stood.
-fn mixed(sum: u64, said: u64) -> u64 {
-    (sum % 4294967296 * 31 + said % 4294967296) % 4294967296
+// A sum, modulo 2^32, that tells where each of its parts stood: a line that `cases` has too, and no
+// crate for it is plainer.
+fn mixed(sum: u32, said: u32) -> u32 {
+    sum.wrapping_mul(31).wrapping_add(said)
 }

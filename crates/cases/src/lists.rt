@@ -1,91 +1,81 @@
 // Lists: judged, and their requests handed out.
-use crate::show;
-use requests::{Item, Judged, Request};
-use std::io;
+ghost use Rattle.std.specs.Iterator.{at_most};
+
+use crate::show::{self, Bytes};
+use requests::{Judged, Request};
+use std::{fmt, io};
 
 // A list is judged, and its requests are handed out from the first place on.
 pub fn read(rt: &impl Print, list: &[u8]) -> io::Result<()> {
-    show::text(rt, b"list")?;
-    show::bytes(rt, list)?;
-    show::text(rt, b":")?;
-    judged(rt, requests::judge(list), list)?;
-    show::end(rt)
-}
-
-fn judged(rt: &impl Print, judged: Judged, list: &[u8]) -> io::Result<()> {
-    show::byte(rt, judged.refusal)?;
-    if judged.refusal == 0 {
-        show::size(rt, judged.requests)?;
-        show::text(rt, b" requests,")?;
-        show::size(rt, judged.combines)?;
-        show::text(rt, b" combines, sum")?;
-        show::number(rt, summed(list, judged.first, judged.requests))?;
+    let judged = requests::judge(list);
+    print!(rt; "list{}: {}", Bytes(list), show::number(&judged))?;
+    if let Ok(judged) = judged {
+        let sum = Requests::of(list, judged).fold(0, |sum, r| show::mixed(sum, number(r)));
+        print!(rt;
+            " {} requests, {} combines, sum {sum}",
+            judged.requests, judged.combines
+        )?;
     }
-    Ok(())
+    println!(rt)
 }
 
 // Prints what stands at a place of a list.
 pub fn item(rt: &impl Print, place: u64, list: &[u8]) -> io::Result<()> {
-    show::text(rt, b"item")?;
-    show::number(rt, place)?;
-    show::text(rt, b" of")?;
-    show::bytes(rt, list)?;
-    show::text(rt, b":")?;
+    print!(rt; "item {place} of{}: ", Bytes(list))?;
     match requests::request_at(list, place as usize) {
-        Item::Found(r, next) => found(rt, r, next)?,
-        Item::Short => show::text(rt, b" short")?,
-    }
-    show::end(rt)
-}
-
-fn found(rt: &impl Print, r: Request, next: usize) -> io::Result<()> {
-    request(rt, r)?;
-    show::text(rt, b" to")?;
-    show::size(rt, next)
-}
-
-fn request(rt: &impl Print, r: Request) -> io::Result<()> {
-    match r {
-        Request::Combine(node) => combine(rt, node),
-        Request::Write(node, value) => write(rt, node, value),
+        Ok((request, next)) => println!(rt; "{} to {next}", Words(request)),
+        Err(_) => println!(rt; "short"),
     }
 }
 
-fn combine(rt: &impl Print, node: u8) -> io::Result<()> {
-    show::text(rt, b" combine")?;
-    show::byte(rt, node)
+// The requests of a list.
+#[derive(Clone, Copy)]
+pub struct Requests<'a> {
+    list: &'a [u8],
+    place: usize,
+    left: usize,
 }
 
-fn write(rt: &impl Print, node: u8, value: i32) -> io::Result<()> {
-    show::text(rt, b" write")?;
-    show::byte(rt, node)?;
-    show::value32(rt, value)
-}
-
-// A sum over so many requests of a list.
-fn summed(list: &[u8], first: usize, requests: usize) -> u64 {
-    let mut sum: u64 = 0;
-    let mut place = first;
-    for _ in 0..requests {
-        let Item::Found(request, next) = requests::request_at(list, place) else {
-            return 0;
-        };
-        sum = show::mixed(sum, number(request));
-        place = next;
+impl Requests<'_> {
+    // Those of a list that was judged so.
+    pub fn of(list: &[u8], judged: Judged) -> Requests<'_> {
+        Requests {
+            list,
+            place: judged.first,
+            left: judged.requests,
+        }
     }
-    sum
 }
 
-fn number(request: Request) -> u64 {
+impl Iterator for Requests<'_> {
+    type Item = Request;
+
+    ghost remaining = { λ r. at_most r.left };
+
+    fn next(&mut self) -> Option<Request> {
+        self.left = self.left.checked_sub(1)?;
+        let (request, next) = requests::request_at(self.list, self.place).ok()?;
+        self.place = next;
+        Some(request)
+    }
+}
+
+// A request in words.
+#[derive(Clone, Copy)]
+struct Words(Request);
+
+impl fmt::Display for Words {
+    fn fmt<W: fmt::Write>(&self, f: &mut fmt::Formatter<W>) -> fmt::Result {
+        match self.0 {
+            Request::Combine(node) => write!(f, "combine {node}"),
+            Request::Write(node, value) => write!(f, "write {node} {value}"),
+        }
+    }
+}
+
+fn number(request: Request) -> u32 {
     match request {
-        Request::Combine(node) => show::wide(node),
-        Request::Write(node, value) => show::mixed(show::wide(node), bits(value)),
+        Request::Combine(node) => u32::from(node),
+        Request::Write(node, value) => show::mixed(u32::from(node), value.cast_unsigned()),
     }
-}
-
-fn bits(value: i32) -> u64 {
-    let twos::Encoded::Number(n) = twos::encode32(value, 32) else {
-        return 0;
-    };
-    n
 }

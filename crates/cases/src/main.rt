@@ -14,6 +14,7 @@ mod show; // printing
 mod tables;
 mod vectors; // outside vectors
 
+use input::Head;
 use std::io;
 use std::io::Read;
 
@@ -22,60 +23,52 @@ use std::io::Read;
 fn main(rt: HostRuntime) -> io::Result<()> {
     let mut input = rt.stdin();
     for _ in 0..1000000 {
-        if !one(&rt, &mut input)? {
+        let Ok(head) = Head::read(&mut input) else {
+            return Ok(());
+        };
+        if !one(&rt, &mut input, head)? {
             return Ok(());
         }
     }
     Ok(())
 }
 
-// Whether there was one more case.
-fn one(rt: &impl Print, input: &mut impl Read) -> io::Result<bool> {
-    let mut head = [0u8; 28];
+// Runs the case with this head, and answers whether its bytes could be read.
+fn one(rt: &impl Print, input: &mut impl Read, head: Head) -> io::Result<bool> {
     let mut space = [0u8; 65600];
-    if input::head(input, &mut head) {
-        return input::body(rt, input, &head, &mut space);
+    let Some(bytes) = space.get_mut(..head.size) else {
+        return Ok(false);
+    };
+    if input.read_exact(bytes).is_err() {
+        return Ok(false);
     }
-    Ok(false)
+    run(rt, head, bytes)?;
+    Ok(true)
 }
 
-// One case: its letter says what is done with the numbers and the bytes.
-fn run(rt: &impl Print, letter: u8, a: u64, b: u64, c: u64, bytes: &mut [u8]) -> io::Result<()> {
-    if letter == b'F' {
-        return numbers::field(rt, a, b, c, bytes);
+// One case: its letter says what is done with the numbers and the bytes. The letters are told apart
+// here alone: an enum of them would be a second table of the same twelve.
+fn run(rt: &impl Print, head: Head, bytes: &mut [u8]) -> io::Result<()> {
+    let Head {
+        letter,
+        a,
+        b,
+        c,
+        ..
+    } = head;
+    match letter {
+        b'F' => numbers::field(rt, a, b, c, bytes),
+        b'S' => numbers::sign(rt, a, b),
+        b'T' => tables::read(rt, bytes),
+        b'W' => tables::write(rt, a, b, c, bytes),
+        b'L' => lists::read(rt, bytes),
+        b'I' => lists::item(rt, a, bytes),
+        b'M' => logs::write(rt, a, b, c, bytes),
+        b'R' => logs::read(rt, a, b, bytes),
+        b'Q' => sessions::serve(rt, a, b, c, bytes),
+        b'U' => sessions::unsound(rt, a, b, c, bytes),
+        b'N' => runs::run(rt, a, b, c, bytes),
+        b'V' => vectors::serve(rt, a, b, bytes),
+        _ => println!(rt; "no such case"),
     }
-    if letter == b'S' {
-        return numbers::sign(rt, a, b);
-    }
-    if letter == b'T' {
-        return tables::read(rt, bytes);
-    }
-    if letter == b'W' {
-        return tables::write(rt, a, b, c, bytes);
-    }
-    if letter == b'L' {
-        return lists::read(rt, bytes);
-    }
-    if letter == b'I' {
-        return lists::item(rt, a, bytes);
-    }
-    if letter == b'M' {
-        return logs::write(rt, a, b, c, bytes);
-    }
-    if letter == b'R' {
-        return logs::read(rt, a, b, bytes);
-    }
-    if letter == b'Q' {
-        return sessions::serve(rt, a, b, c, bytes);
-    }
-    if letter == b'U' {
-        return sessions::unsound(rt, a, b, c, bytes);
-    }
-    if letter == b'N' {
-        return runs::run(rt, a, b, c, bytes);
-    }
-    if letter == b'V' {
-        return vectors::serve(rt, a, b, bytes);
-    }
-    show::text(rt, b"no such case\n")
 }

@@ -1,19 +1,21 @@
 // Lists run in one call.
-use crate::{sessions, show};
+use crate::sessions;
+use crate::show::{self, Bytes};
 use aggregate::Ran;
+use refusal::Refusal;
 use session::Session;
 use std::io;
 
 // The first bytes are the table, the rest is the list. It is logged from place on in a log of `sizes`
 // modulo 2^32 bytes, and has the rest of `sizes` answer places.
 pub fn run(rt: &impl Print, table: u64, place: u64, sizes: u64, bytes: &[u8]) -> io::Result<()> {
-    show::text(rt, b"run")?;
-    let size = table as usize;
-    if size <= bytes.len() {
-        let session = sessions::other().load(&bytes[..size]).session;
-        lent(rt, session, place as usize, sizes, &bytes[size..])?;
+    print!(rt; "run")?;
+    if let Some((table, list)) = bytes.split_at_checked(table as usize) {
+        let other = sessions::other();
+        let session = other.load(table).unwrap_or(other);
+        lent(rt, session, place as usize, sizes, list)?;
     }
-    show::end(rt)
+    println!(rt)
 }
 
 // What was lent has a mark in every place, so that what is changed can be seen.
@@ -26,59 +28,49 @@ fn lent(
 ) -> io::Result<()> {
     let mut log = [170u8; 65600];
     let mut answers = [7i64; 4096];
-    let ran = part(session, list, sizes, &mut answers, &mut log, place);
-    totals(rt, ran)?;
-    show::text(rt, b" answers")?;
-    show::number(rt, summed(&answers))?;
-    show::text(rt, b" log")?;
-    show::bytes(rt, &log)?;
-    sessions::held(rt, ran.session)
-}
-
-fn part(
-    session: Session,
-    list: &[u8],
-    sizes: u64,
-    answers: &mut [i64],
-    log: &mut [u8],
-    place: usize,
-) -> Ran {
-    let room = (sizes % 4294967296) as usize;
-    let places = (sizes / 4294967296) as usize;
-    if room <= log.len() {
-        return part_of(session, list, places, answers, &mut log[..room], place);
+    let room = log.len().min((sizes % 4294967296) as usize);
+    let places = answers.len().min((sizes / 4294967296) as usize);
+    let ran = aggregate::run(
+        session,
+        list,
+        &mut answers[..places],
+        &mut log[..room],
+        place,
+    );
+    totals(rt, &ran)?;
+    print!(rt; " answers {} log{}", summed(&answers), Bytes(&log))?;
+    match ran {
+        Ok(ran) => sessions::held(rt, &ran.session),
+        Err(_) => sessions::held(rt, &session),
     }
-    part_of(session, list, places, answers, log, place)
 }
 
-fn part_of(
-    session: Session,
-    list: &[u8],
-    places: usize,
-    answers: &mut [i64],
-    log: &mut [u8],
-    place: usize,
-) -> Ran {
-    if places <= answers.len() {
-        return aggregate::run(session, list, &mut answers[..places], log, place);
+// What a run told: the number of a refusal and the index of its request, and the totals.
+pub fn totals(rt: &impl Print, ran: &Result<Ran, Refusal>) -> io::Result<()> {
+    match ran {
+        Ok(
+            Ran {
+                stopped,
+                totals,
+                ..
+            },
+        ) => {
+            match stopped {
+                Some(stop) => print!(rt; "\n  {} {}", u8::from(stop.refusal), stop.index)?,
+                None => print!(rt; "\n  0 0")?,
+            }
+            print!(rt;
+                " {} {} {} {}",
+                totals.requests, totals.answers, totals.messages, totals.next
+            )
+        }
+        Err(refusal) => print!(rt; "\n  {} 0 0 0 0 0", u8::from(*refusal)),
     }
-    aggregate::run(session, list, answers, log, place)
 }
 
-pub fn totals(rt: &impl Print, ran: Ran) -> io::Result<()> {
-    show::text(rt, b"\n ")?;
-    show::byte(rt, ran.refusal)?;
-    show::size(rt, ran.index)?;
-    show::size(rt, ran.totals.requests)?;
-    show::size(rt, ran.totals.answers)?;
-    show::number(rt, ran.totals.messages as u64)?;
-    show::size(rt, ran.totals.next)
-}
-
-fn summed(answers: &[i64]) -> u64 {
-    let mut sum: u64 = 0;
-    for i in 0..answers.len() {
-        sum = show::mixed(sum, sessions::bits(answers[i]));
-    }
-    sum
+fn summed(answers: &[i64]) -> u32 {
+    answers.iter().fold(
+        0,
+        |sum, answer| show::mixed(sum, show::low(answer.cast_unsigned())),
+    )
 }

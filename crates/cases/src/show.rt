@@ -1,109 +1,68 @@
-// Printing.
-use std::io;
-use twos::Encoded;
+// What is printed in several places.
+use refusal::Refusal;
+use std::fmt;
 
-pub fn text(rt: &impl Print, text: &[u8]) -> io::Result<()> {
-    rt.write_all(text)
-}
-
-// The end of a line.
-pub fn end(rt: &impl Print) -> io::Result<()> {
-    text(rt, b"\n")
-}
-
-// A number in decimal, behind a blank.
-pub fn number(rt: &impl Print, n: u64) -> io::Result<()> {
-    print!(rt; " {n}")
-}
-
-pub fn size(rt: &impl Print, n: usize) -> io::Result<()> {
-    number(rt, n as u64)
-}
-
-pub fn byte(rt: &impl Print, x: u8) -> io::Result<()> {
-    number(rt, wide(x))
-}
-
-pub fn flag(rt: &impl Print, yes: bool) -> io::Result<()> {
-    if yes {
-        text(rt, b" yes")
-    } else {
-        text(rt, b" no")
+// 0 for an answer, or the number of a refusal.
+pub fn number<T>(answer: &Result<T, Refusal>) -> u8 {
+    match answer {
+        Ok(_) => 0,
+        Err(refusal) => u8::from(*refusal),
     }
 }
 
-// A value in decimal, behind a blank.
-pub fn value(rt: &impl Print, value: i64) -> io::Result<()> {
-    signed(rt, twos::encode(value, 64))
-}
+// A value, or a word where there is none.
+#[derive(Clone, Copy)]
+pub struct Or<T>(pub Result<T, Refusal>, pub &'static str);
 
-pub fn value32(rt: &impl Print, value: i32) -> io::Result<()> {
-    signed(rt, twos::encode32(value, 64))
-}
-
-// A value by the 64 bits that stand for it: those of the lower half are the value itself.
-fn signed(rt: &impl Print, encoded: Encoded) -> io::Result<()> {
-    let Encoded::Number(n) = encoded else {
-        return Ok(());
-    };
-    if n < 9223372036854775808 {
-        number(rt, n)
-    } else {
-        print!(rt; " -{}", 18446744073709551615 - n + 1)
+impl<T: fmt::Display> fmt::Display for Or<T> {
+    fn fmt<W: fmt::Write>(&self, f: &mut fmt::Formatter<W>) -> fmt::Result {
+        match &self.0 {
+            Ok(value) => write!(f, "{value}"),
+            Err(_) => f.write_str(self.1),
+        }
     }
 }
 
 // Bytes in hexadecimal, each behind a blank; of many, how many there are and a sum over them.
-pub fn bytes(rt: &impl Print, bytes: &[u8]) -> io::Result<()> {
-    if bytes.len() <= 32 {
-        return hexadecimal(rt, bytes);
+#[derive(Clone, Copy)]
+pub struct Bytes<'a>(pub &'a [u8]);
+
+impl fmt::Display for Bytes<'_> {
+    fn fmt<W: fmt::Write>(&self, f: &mut fmt::Formatter<W>) -> fmt::Result {
+        let bytes = self.0;
+        if bytes.len() <= 32 {
+            for x in bytes {
+                write!(f, " {x:02x}")?;
+            }
+            return Ok(());
+        }
+        let sum = bytes.iter().fold(0, |sum, x| mixed(sum, u32::from(*x)));
+        write!(f, " {} bytes, sum {sum}", bytes.len())
     }
-    size(rt, bytes.len())?;
-    text(rt, b" bytes, sum")?;
-    number(rt, summed(bytes))
 }
 
-fn hexadecimal(rt: &impl Print, bytes: &[u8]) -> io::Result<()> {
-    for i in 0..bytes.len() {
-        pair(rt, bytes[i])?;
+// Bytes in hexadecimal, with no blanks; a dash for none.
+#[derive(Clone, Copy)]
+pub struct Digits<'a>(pub &'a [u8]);
+
+impl fmt::Display for Digits<'_> {
+    fn fmt<W: fmt::Write>(&self, f: &mut fmt::Formatter<W>) -> fmt::Result {
+        if self.0.is_empty() {
+            return f.write_str("-");
+        }
+        for x in self.0 {
+            write!(f, "{x:02x}")?;
+        }
+        Ok(())
     }
-    Ok(())
 }
 
-fn pair(rt: &impl Print, x: u8) -> io::Result<()> {
-    text(rt, b" ")?;
-    two(rt, x)
+// A sum, modulo 2^32, that tells where each of its parts stood.
+pub fn mixed(sum: u32, x: u32) -> u32 {
+    sum.wrapping_mul(31).wrapping_add(x)
 }
 
-// Bytes in hexadecimal, behind one blank; a dash for none.
-pub fn digits(rt: &impl Print, bytes: &[u8]) -> io::Result<()> {
-    if bytes.len() == 0 {
-        return text(rt, b" -");
-    }
-    text(rt, b" ")?;
-    for i in 0..bytes.len() {
-        two(rt, bytes[i])?;
-    }
-    Ok(())
-}
-
-fn two(rt: &impl Print, x: u8) -> io::Result<()> {
-    print!(rt; "{x:02x}")
-}
-
-fn summed(bytes: &[u8]) -> u64 {
-    let mut sum: u64 = 0;
-    for i in 0..bytes.len() {
-        sum = mixed(sum, wide(bytes[i]));
-    }
-    sum
-}
-
-// A sum that tells where each of its parts stood.
-pub fn mixed(sum: u64, x: u64) -> u64 {
-    (sum % 4294967296 * 31 + x % 4294967296) % 4294967296
-}
-
-pub fn wide(x: u8) -> u64 {
-    x as u64
+// The last 32 bits of a number.
+pub fn low(x: u64) -> u32 {
+    (x % 4294967296) as u32
 }

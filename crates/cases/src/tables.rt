@@ -1,85 +1,58 @@
 // Tables: read, and written.
-use crate::show;
-use session::{Session, Started};
-use std::io;
-use table::{Reading, Written};
+use crate::show::{self, Bytes};
+use session::Session;
+use std::{array, io};
 use tree::Tree;
 
 // A table is read, and the tree is written into bytes of ones.
 pub fn read(rt: &impl Print, bytes: &[u8]) -> io::Result<()> {
-    show::text(rt, b"table")?;
-    show::bytes(rt, bytes)?;
-    show::text(rt, b":")?;
-    back(rt, table::read(bytes))?;
-    show::end(rt)
-}
-
-fn back(rt: &impl Print, reading: Reading) -> io::Result<()> {
-    show::byte(rt, reading.refusal)?;
-    if reading.refusal == 0 {
-        show::number(rt, reading.tree.count as u64)?;
-        show::text(rt, b" nodes, back")?;
-        into_ones(rt, reading.tree)?;
+    let read = table::read(bytes);
+    print!(rt; "table{}: {}", Bytes(bytes), show::number(&read))?;
+    if let Ok(tree) = read {
+        print!(rt; " {} nodes, back", tree.count)?;
+        written(rt, tree, &mut [255; 256])?;
     }
-    Ok(())
-}
-
-fn into_ones(rt: &impl Print, tree: Tree) -> io::Result<()> {
-    let mut out = [255u8; 256];
-    answer(rt, table::write(tree, &mut out))?;
-    show::bytes(rt, &out)
+    println!(rt)
 }
 
 // The tree of so many nodes in which each node but the first has so many children, as far as they
 // go, is written into the bytes; entry c is made 255 before. Then a session is started from it.
 pub fn write(rt: &impl Print, count: u64, children: u64, c: u64, out: &mut [u8]) -> io::Result<()> {
-    show::text(rt, b"tree")?;
-    show::number(rt, count)?;
-    show::number(rt, children)?;
-    show::number(rt, c)?;
-    show::text(rt, b":")?;
     let tree = grown(count % 65536, children, c);
-    answer(rt, table::write(tree, out))?;
-    show::bytes(rt, out)?;
-    started(rt, Session::fresh(tree))?;
-    show::end(rt)
+    let fresh = Session::fresh(tree);
+    print!(rt; "tree {count} {children} {c}:")?;
+    written(rt, tree, out)?;
+    println!(rt;
+        " session {} {}",
+        show::number(&fresh),
+        fresh.map_or(0, |session| session.tree.count)
+    )
 }
 
-fn started(rt: &impl Print, started: Started) -> io::Result<()> {
-    show::text(rt, b" session")?;
-    show::byte(rt, started.refusal)?;
-    show::number(rt, started.session.tree.count as u64)
-}
-
-fn answer(rt: &impl Print, written: Written) -> io::Result<()> {
-    show::byte(rt, written.refusal)?;
-    show::size(rt, written.bytes)?;
-    show::text(rt, b" bytes,")
+// What writing a tree answers, and the bytes after it.
+fn written(rt: &impl Print, tree: Tree, out: &mut [u8]) -> io::Result<()> {
+    let written = table::write(tree, out);
+    print!(rt;
+        " {} {} bytes,{}",
+        show::number(&written),
+        written.unwrap_or(0),
+        Bytes(out)
+    )
 }
 
 fn grown(count: u64, children: u64, c: u64) -> Tree {
-    let mut parents = [0u8; 256];
-    for i in 0..256usize {
-        parents[i] = parent(count, children, c, i as u64);
-    }
     Tree {
         count: (count % 65536) as u16,
-        parents,
+        parents: array::from_fn(|i| parent(count, children, c, i as u64)),
     }
 }
 
 fn parent(count: u64, children: u64, c: u64, i: u64) -> u8 {
     if i == c {
-        return 255;
+        255
+    } else if 0 < i && i < count && 0 < children {
+        ((i - 1) / children % 256) as u8
+    } else {
+        0
     }
-    if i < 1 {
-        return 0;
-    }
-    if count <= i {
-        return 0;
-    }
-    if children < 1 {
-        return 0;
-    }
-    ((i - 1) / children % 256) as u8
 }

@@ -1,128 +1,69 @@
 // Outside vectors: a table and a list as the program `rww` takes them, with the log of each request.
-use crate::{sessions, show};
-use aggregate::{Outcome, Served};
-use requests::{Item, Request};
+use crate::lists::Requests;
+use crate::sessions;
+use crate::show::Digits;
+use aggregate::Outcome;
+use requests::Request;
 use session::Session;
 use std::io;
 
 // The first bytes are the table, the rest is the list. Logs are printed where they are asked for.
 pub fn serve(rt: &impl Print, table: u64, logs: u64, bytes: &[u8]) -> io::Result<()> {
-    let size = table as usize;
-    if size <= bytes.len() {
-        loaded(rt, &bytes[..size], logs == 1, &bytes[size..])?;
+    match bytes.split_at_checked(table as usize) {
+        Some((table, list)) => loaded(rt, table, logs == 1, list),
+        None => Ok(()),
     }
-    Ok(())
 }
 
 fn loaded(rt: &impl Print, table: &[u8], logs: bool, list: &[u8]) -> io::Result<()> {
-    let started = sessions::other().load(table);
-    if started.refusal != 0 {
-        return refused(rt, b"table", started.refusal);
+    let session = match sessions::other().load(table) {
+        Ok(session) => session,
+        Err(refusal) => return println!(rt; "table {}", u8::from(refusal)),
+    };
+    match requests::judge(list) {
+        Ok(judged) => run(rt, session, logs, Requests::of(list, judged)),
+        Err(refusal) => println!(rt; "list {}", u8::from(refusal)),
     }
-    let refusal = requests::judge(list).refusal;
-    if refusal != 0 {
-        return refused(rt, b"list", refusal);
-    }
-    run(rt, started.session, logs, list)
 }
 
-fn refused(rt: &impl Print, what: &[u8], refusal: u8) -> io::Result<()> {
-    show::text(rt, what)?;
-    show::byte(rt, refusal)?;
-    show::end(rt)
-}
-
-// The requests of an accepted list, up to the first that is refused.
-fn run(rt: &impl Print, session: Session, logs: bool, list: &[u8]) -> io::Result<()> {
-    let judged = requests::judge(list);
-    let mut session = session;
-    let mut at = judged.first;
-    let mut messages: u64 = 0;
-    for index in 0..judged.requests {
-        let Item::Found(request, next) = requests::request_at(list, at) else {
-            return Ok(());
+// The requests of an accepted list, up to the first that is refused, each from bit 0 of zero bytes on,
+// and what they answer and log.
+fn run(
+    rt: &impl Print,
+    mut session: Session,
+    logs: bool,
+    requests: Requests<'_>,
+) -> io::Result<()> {
+    let mut sum = 0u32;
+    for (index, request) in requests.enumerate() {
+        let mut log = [0u8; 2423];
+        let served = match sessions::asked(session, request, &mut log, 0) {
+            Ok(served) => served,
+            Err(refusal) => return println!(rt; "request {index} {}", u8::from(refusal)),
         };
-        let served = one(rt, session, request, index, logs)?;
-        if served.outcome.refusal != 0 {
-            return Ok(());
+        accepted(rt, request, served.outcome)?;
+        if logs {
+            logged(rt, index, served.outcome.next, &log)?;
         }
         session = served.session;
-        at = next;
-        messages = plus(messages, served.outcome.messages);
+        sum = sum.saturating_add(served.outcome.messages);
     }
-    total(rt, messages)
+    println!(rt; "total {sum}")
 }
 
-fn plus(sum: u64, messages: u32) -> u64 {
-    sum % 4294967296 + messages as u64
-}
-
-fn total(rt: &impl Print, messages: u64) -> io::Result<()> {
-    show::text(rt, b"total")?;
-    show::number(rt, messages)?;
-    show::end(rt)
-}
-
-// One request, from bit 0 of zero bytes on, and what it answers and logs.
-fn one(
-    rt: &impl Print,
-    session: Session,
-    request: Request,
-    index: usize,
-    logs: bool,
-) -> io::Result<Served> {
-    let mut log = [0u8; 2423];
-    let served = sessions::asked(session, request, &mut log, 0);
-    if served.outcome.refusal != 0 {
-        stopped(rt, index, served.outcome.refusal)?;
-        return Ok(served);
-    }
-    accepted(rt, request, served.outcome)?;
-    if logs {
-        logged(rt, index, served.outcome.next, &log)?;
-    }
-    Ok(served)
-}
-
-fn stopped(rt: &impl Print, index: usize, refusal: u8) -> io::Result<()> {
-    show::text(rt, b"request")?;
-    show::size(rt, index)?;
-    show::byte(rt, refusal)?;
-    show::end(rt)
-}
-
+// The line that `rww` prints: two formats there, two here, and no crate between them is plainer.
 fn accepted(rt: &impl Print, request: Request, outcome: Outcome) -> io::Result<()> {
+    let messages = outcome.messages;
     match request {
-        Request::Combine(x) => {
-            show::text(rt, b"C")?;
-            show::byte(rt, x)?;
-            show::value(rt, outcome.answer)?;
-        }
-        Request::Write(x, value) => {
-            show::text(rt, b"W")?;
-            show::byte(rt, x)?;
-            show::value32(rt, value)?;
-        }
+        Request::Combine(x) => println!(rt; "C {x} {} {messages}", outcome.answer),
+        Request::Write(x, value) => println!(rt; "W {x} {value} {messages}"),
     }
-    show::number(rt, outcome.messages as u64)?;
-    show::end(rt)
 }
 
 // Prints the index of a request, the bits that it logged, and the bytes that hold them.
 fn logged(rt: &impl Print, index: usize, bits: usize, log: &[u8]) -> io::Result<()> {
-    show::text(rt, b"log")?;
-    show::size(rt, index)?;
-    show::size(rt, bits)?;
-    let size = bytes_for(bits);
-    if size <= log.len() {
-        show::digits(rt, &log[..size])?;
+    match log.get(..bits.div_ceil(8)) {
+        Some(bytes) => println!(rt; "log {index} {bits} {}", Digits(bytes)),
+        None => println!(rt; "log {index} {bits}"),
     }
-    show::end(rt)
-}
-
-fn bytes_for(bits: usize) -> usize {
-    if bits % 8 == 0 {
-        return bits / 8;
-    }
-    bits / 8 + 1
 }

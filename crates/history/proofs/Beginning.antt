@@ -13,7 +13,7 @@ use Rattle.table.proofs.Tables.{parents_length}
 use Rattle.session.specs.Holding.{value_of, lease_of, sent_of}
 use Rattle.session.specs.Starting.{fresh_of}
 use Rattle.session.specs.declared.Session.{Session}
-use Rattle.session.specs.declared.Started.{Started}
+use Rattle.session.specs.Told.{Started}
 use Rattle.session.proofs.Starts.{all_same, pair_same, started, fresh_sound, fresh_exactly, read_well, load_accepts}
 use Rattle.mechanism.proofs.Starts.{fresh_right}
 use Rattle.history.specs.History.{Fresh, loaded}

@@ -1,5 +1,7 @@
 -- What comes of a call is what the contract of its function allows: `Post` of its `Reads`, the contract as the source states it.
-use Rattle.history.specs.History.{result, loaded, started}
+use mathlib.Core.Path.{sym, ap, subst}
+use Rattle.session.specs.Told.{Started}
+use Rattle.history.specs.History.{result, Fresh, loaded, started}
 use Rattle.history.specs.Promises.{CombineContract, WriteContract, RunContract, LoadContract, FreshContract}
 
 pub combine_contract : CombineContract
@@ -15,7 +17,7 @@ unfolding result
 run_contract κ s s' list list' answers answers' log log' place place' ran h = rw (h.0, h.1, h.2)
 
 pub load_contract : LoadContract
-load_contract κ s s' bytes bytes' begun h accepted = rw h (loaded s bytes.now (rw h at accepted))
+load_contract κ s s' bytes bytes' begun h = subst (λ (d : Started). Fresh d.session) (sym h) (loaded s.now bytes.now (ap (λ (d : Started). d.refusal) (sym h)))
 
 pub fresh_contract : FreshContract
-fresh_contract κ tree tree' begun h long accepted = rw h (started tree long (rw h at accepted))
+fresh_contract κ tree tree' begun h long = subst (λ (d : Started). Fresh d.session) (sym h) (started tree long (ap (λ (d : Started). d.refusal) (sym h)))

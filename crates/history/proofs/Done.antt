@@ -15,7 +15,7 @@ use Rattle.mechanism.specs.Requests.{says, after}
 use Rattle.mechanism.proofs.Fits.{sum_written}
 use Rattle.aggregate.specs.Serving.{served_of}
 use Rattle.aggregate.specs.Running.{Running, in_turn, stored, done, Serves, all_done, stopped, accepted, spoken_in}
-use Rattle.aggregate.specs.declared.Served.{Served}
+use Rattle.aggregate.specs.Told.{Served}
 use Rattle.aggregate.proofs.Verdicts.{accepted_by, answers}
 use Rattle.aggregate.proofs.Runs.{stored_length}
 use Rattle.history.specs.History.{answer_of}

@@ -24,7 +24,7 @@ use Rattle.requests.proofs.Written.{list_reads_back}
 use Rattle.session.specs.Holding.{lease_of, sent_of}
 use Rattle.session.specs.Starting.{started_of}
 use Rattle.session.specs.declared.Session.{Session}
-use Rattle.session.specs.declared.Started.{Started}
+use Rattle.session.specs.Told.{Started}
 use Rattle.session.proofs.Starts.{all_same, fresh_exactly, started as begins}
 use Rattle.mechanism.specs.Pairwise.{about, Pair}
 use Rattle.mechanism.proofs.Fits.{sum_ranging}

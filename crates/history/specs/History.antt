@@ -22,8 +22,7 @@ use Rattle.mechanism.specs.Requests.{kind_of}
 use Rattle.mechanism.specs.Pairwise.{Right}
 use Rattle.aggregate.specs.Serving.{served_of, log_of}
 use Rattle.aggregate.specs.Running.{list_refusal, ran_of, answers_of, run_log_of}
-use Rattle.aggregate.specs.declared.Served.{Served}
-use Rattle.aggregate.specs.declared.Ran.{Ran}
+use Rattle.aggregate.specs.Told.{Served, Ran}
 
 -- ---- calls
 

@@ -1,5 +1,6 @@
 -- What is promised of every history: demand 3, and what it rests on. The theorem that proves a statement bears its name in small letters.
-use Rattle.std.specs.Prelude.{◌≡◌, true, List, [], ◌∷◌, ◌++◌, ℕ, ◌+◌, ◌*◌, ◌≤◌, ℤ, pos, length, get_or}
+use Rattle.std.specs.Prelude.{◌≡◌, true, List, [], ◌∷◌, ◌++◌, ℕ, ◌+◌, ◌*◌, ◌≤◌, ℤ, pos, length, get_or, Result, Ok}
+use Rattle.refusal.specs.declared.Refusal.{Refusal}
 use Rattle.twos.specs.Twos.{within}
 use Rattle.tree.specs.Operation.{fold, sum}
 use Rattle.tree.specs.Kept.{kept}
@@ -13,10 +14,10 @@ use Rattle.requests.specs.declared.Request.{Request}
 use Rattle.requests.specs.declared.Request.TheVariants.{Combine, Write}
 use Rattle.session.specs.Holding.{value_of, lease_of, sent_of}
 use Rattle.session.specs.declared.Session.{Session}
-use Rattle.session.specs.declared.Started.{Started}
 use Rattle.mechanism.specs.Pairwise.{about, Pair}
 use Rattle.session.proofs.Session.load.Reads as load_contract
 use Rattle.session.proofs.Session.fresh.Reads as fresh_contract
+use Rattle.aggregate.specs.Told.{told_served, told_ran}
 use Rattle.aggregate.specs.declared.Served.{Served}
 use Rattle.aggregate.specs.declared.Ran.{Ran}
 use Rattle.aggregate.proofs.combine.Reads as combine_contract
@@ -26,33 +27,31 @@ use Rattle.history.specs.History.{Call, combine, write, run, of_request, of_list
 
 -- ---- the contracts
 
--- What comes of a call of `combine` is what the function's own contract allows, its `Post`: of the arguments in their order, the result, and the arguments at the return, here with a prime. `now` is what stands in lent memory.
+-- What comes of a call of `combine` is what the function's own contract allows, its `Post`: of the arguments in their order, the answer, and the arguments at the return, here with a prime. `now` is what stands in lent memory; what an answer tells is `told_served`.
 abbrev pub CombineContract : Type 0
-CombineContract = (κ : _) (session session' : Session) (x x' : ℕ) (log log' : _) (place place' : ℕ) (served : Served)
-    → combine_contract.Post κ (session, (x, (log, (place, tt)))) served (session', (x', (log', (place', tt))))
-    → result session (combine x log.now place) ≡ of_request (Combine x) served log'.now
+CombineContract = (κ : _) (session session' : Session) (x x' : ℕ) (log log' : _) (place place' : ℕ) (answer : Result Served Refusal)
+    → combine_contract.Post κ (session, (x, (log, (place, tt)))) answer (session', (x', (log', (place', tt))))
+    → result session (combine x log.now place) ≡ of_request (Combine x) (told_served session answer) log'.now
 
 -- What comes of a call of `write` is what the contract of `write` allows, where the type of the value says that it has 32 bits.
 abbrev pub WriteContract : Type 0
-WriteContract = (κ : _) (session session' : Session) (x x' : ℕ) (value value' : ℤ) (log log' : _) (place place' : ℕ) (served : Served)
-    → write_contract.Post κ (session, (x, (value, (log, (place, tt))))) served (session', (x', (value', (log', (place', tt))))) → (small : within 32 value ≡ true)
-    → result session (write x value small log.now place) ≡ of_request (Write x value) served log'.now
+WriteContract = (κ : _) (session session' : Session) (x x' : ℕ) (value value' : ℤ) (log log' : _) (place place' : ℕ) (answer : Result Served Refusal)
+    → write_contract.Post κ (session, (x, (value, (log, (place, tt))))) answer (session', (x', (value', (log', (place', tt))))) → (small : within 32 value ≡ true)
+    → result session (write x value small log.now place) ≡ of_request (Write x value) (told_served session answer) log'.now
 
 -- What comes of a call of `run` is what the contract of `run` allows.
 abbrev pub RunContract : Type 0
-RunContract = (κ : _) (session session' : Session) (list list' answers answers' log log' : _) (place place' : ℕ) (ran : Ran)
-    → run_contract.Post κ (session, (list, (answers, (log, (place, tt))))) ran (session', (list', (answers', (log', (place', tt)))))
-    → result session (run list.now answers.now log.now place) ≡ of_list list.now ran answers'.now log'.now
+RunContract = (κ : _) (session session' : Session) (list list' answers answers' log log' : _) (place place' : ℕ) (answer : Result Ran Refusal)
+    → run_contract.Post κ (session, (list, (answers, (log, (place, tt))))) answer (session', (list', (answers', (log', (place', tt)))))
+    → result session (run list.now answers.now log.now place) ≡ of_list list.now (told_ran session answer) answers'.now log'.now
 
--- A session that `Session::load` returns is fresh, where it answers 0.
+-- A session that `Session::load` returns is fresh.
 abbrev pub LoadContract : Type 0
-LoadContract = (κ : _) (session session' : Session) (bytes bytes' : _) (begun : Started) → load_contract.Post κ (session, (bytes, tt)) begun (session', (bytes', tt))
-    → begun.refusal ≡ 0 → Fresh begun.session
+LoadContract = (κ : _) (session session' bytes bytes' : _) (begun : Session) → load_contract.Post κ (session, (bytes, tt)) (Ok begun) (session', (bytes', tt)) → Fresh begun
 
--- A session that `Session::fresh` returns is fresh, where it answers 0; the type of a tree says that it has 256 parents.
+-- A session that `Session::fresh` returns is fresh; the type of a tree says that it has 256 parents.
 abbrev pub FreshContract : Type 0
-FreshContract = (κ : _) (tree tree' : Tree) (begun : Started) → fresh_contract.Post κ (tree, tt) begun (tree', tt) → length tree.parents ≡ 256
-    → begun.refusal ≡ 0 → Fresh begun.session
+FreshContract = (κ : _) (tree tree' : Tree) (begun : Session) → fresh_contract.Post κ (tree, tt) (Ok begun) (tree', tt) → length tree.parents ≡ 256 → Fresh begun
 
 -- ---- from any session on
 

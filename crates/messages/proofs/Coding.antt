@@ -1,8 +1,8 @@
 -- A message as a number of 58 bits: its parts, as the code finds them, and back.
-use mathlib.Core.Path.{◌≡◌, refl}
+use mathlib.Core.Path.{◌≡◌, refl, sym, ap, ◌∙◌}
 use mathlib.Core.Bool.{Bool, true, false, cond, ◌||◌}
 use mathlib.Core.Logic.{◌⊎◌, inl, inr}
-use Prim.Native.Nat.{ℕ, zero, suc, ◌+◌, ◌-◌, ◌*◌, ◌/◌, ◌%◌, ◌^◌, ◌<◌}
+use Prim.Native.Nat.{ℕ, ◌+◌, ◌-◌, ◌*◌, ◌/◌, ◌%◌, ◌^◌, ◌<◌}
 use mathlib.Core.List.{List}
 use native.Mathlib.Omega.{arith}
 use lib.Dec.{eqb}
@@ -11,11 +11,11 @@ use lib.Signed.{mag}
 use borrow.Author.Tests.{ltb-true}
 use Rattle.twos.specs.Twos.{twos, signed, within}
 use Rattle.twos.proofs.Signs.{signed_twos}
-use Rattle.messages.specs.Records.{kind_of, width_of, head_of, record_of, coded}
+use Rattle.messages.specs.Records.{kind_of, width_of, bits_of, head_of, record_of, coded}
 use Rattle.fields.specs.Fields.{field}
-use Rattle.fields.proofs.ReadBack.{field_lt}
-use Rattle.messages.proofs.Stands.{head, with_value}
+use Rattle.messages.proofs.Stands.{standing}
 use Rattle.messages.specs.Reading.{message_of, message_at, decoded}
+use Rattle.messages.specs.declared.Message.{Message}
 use Rattle.messages.specs.declared.Message.TheVariants.{Probe, Response, Update, Release}
 use Rattle.messages.specs.Promises.{CodedBack}
 use Rattle.messages.proofs.Widths.{value_lt}
@@ -51,33 +51,16 @@ coded_back (Release a b) (ha, hb, h) = let p = parts (head_of 3 a b * 2 ^ 40) 3 
 
 -- the message of the record that stands at a place, with zero bits behind it
 module _ (s : List ℕ) (place : ℕ) where
-  from_lt : field s (place + 2) 8 < 256
-  from_lt = field_lt s (place + 2) 8
+  abbrev message : Message
+  message = message_at s place (field s place 2)
 
-  to_lt : field s (place + 10) 8 < 256
-  to_lt = field_lt s (place + 10) 8
+  abbrev padded : ℕ → ℕ
+  padded w = field s place w * 2 ^ (58 - w)
 
-  value_lies : field s (place + 18) 40 < 2 ^ 40
-  value_lies = field_lt s (place + 18) 40
-
-  pub decoded_there : (kind : ℕ) → kind ≡ field s place 2 → decoded (field s place (width_of kind) * 2 ^ (58 - width_of kind)) ≡ message_at s place kind
-  unfolding decoded width_of message_at message_of
-  decoded_there zero e =
-      let h = head s place in
-      let p = parts (field s place 18 * 2 ^ 40) 0 (field s (place + 2) 8) (field s (place + 10) 8) 0 (omega arith) from_lt to_lt (omega arith) in
-      rw (p.kinds, p.senders, p.receivers)
-  decoded_there (suc zero) e =
-      let h = head s place in
-      let v = with_value s place in
-      let p = parts (field s place 58 * 1) 1 (field s (place + 2) 8) (field s (place + 10) 8) (field s (place + 18) 40) (omega arith) from_lt to_lt value_lies in
-      rw (p.kinds, p.senders, p.receivers, p.values)
-  decoded_there (suc (suc zero)) e =
-      let h = head s place in
-      let v = with_value s place in
-      let p = parts (field s place 58 * 1) 2 (field s (place + 2) 8) (field s (place + 10) 8) (field s (place + 18) 40) (omega arith) from_lt to_lt value_lies in
-      rw (p.kinds, p.senders, p.receivers, p.values)
-  decoded_there (suc (suc (suc zero))) e =
-      let h = head s place in
-      let p = parts (field s place 18 * 2 ^ 40) 3 (field s (place + 2) 8) (field s (place + 10) 8) 0 (omega arith) from_lt to_lt (omega arith) in
-      rw (p.kinds, p.senders, p.receivers)
-  decoded_there (suc (suc (suc (suc k)))) e = absurd (omega (arith, field_lt s place 2))
+  pub decoded_there : decoded (padded (width_of (field s place 2))) ≡ message
+  unfolding coded
+  decoded_there =
+      let t = standing s place (field s place 2) refl in
+      ap (λ (kind : ℕ). decoded (padded (width_of kind))) (sym t.kind)
+      ∙ ap (λ (n : ℕ). decoded (n * 2 ^ (58 - bits_of message))) t.stands
+      ∙ coded_back message t.sized

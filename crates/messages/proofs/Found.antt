@@ -65,7 +65,7 @@ module _ (s : List ℕ) (place : ℕ) where
       record_found =
           let h = found s place w n e in
           let l : after s place ≤ usable_bits (length s) = rw (← width) h.1 in
-          rw (h.2, width, le-leb (after s place) (usable_bits (length s)) l, decoded_there s place (field s place 2) refl)
+          rw (h.2, width, le-leb (after s place) (usable_bits (length s)) l, decoded_there s place)
 
 -- ---- what the reader answers then
 

@@ -20,13 +20,13 @@ use Rattle.messages.proofs.Widths.{value_lt}
 
 module _ (s : List ℕ) (place : ℕ) where
   -- the fields that every record begins with, and the value behind them
-  pub head : field s place 18 ≡ head_of (field s place 2) (field s (place + 2) 8) (field s (place + 10) 8)
+  head : field s place 18 ≡ head_of (field s place 2) (field s (place + 2) 8) (field s (place + 10) 8)
   head =
       let f : field s place 18 ≡ field s place 10 * 2 ^ 8 + field s (place + 10) 8 = read_two s place 10 8 in
       let g : field s place 10 ≡ field s place 2 * 2 ^ 8 + field s (place + 2) 8 = read_two s place 2 8 in
       omega arith
 
-  pub with_value : field s place 58 ≡ field s place 18 * 2 ^ 40 + field s (place + 18) 40
+  with_value : field s place 58 ≡ field s place 18 * 2 ^ 40 + field s (place + 18) 40
   with_value = read_two s place 18 40
 
   from_lt : field s (place + 2) 8 < 256

@@ -6,7 +6,7 @@ use native.Mathlib.Omega.{arith}
 use lib.Dec.{eqb}
 use lib.IntN.{ℤ}
 use lib.Signed.{mag}
-use borrow.Author.Tests.{ne_eqb, ltb-true}
+use borrow.Author.Tests.{ltb-true}
 use Rattle.twos.specs.Twos.{twos, within}
 use Rattle.twos.proofs.Signs.{twos_lt}
 use Rattle.messages.specs.Records.{kind_of, width_of, record_of}
@@ -14,18 +14,6 @@ use Rattle.messages.specs.Promises.{RecordFits}
 use Rattle.messages.specs.declared.Message.TheVariants.{Probe, Response, Update, Release}
 
 module _ (kind : ℕ) where
-  pub width_response : kind ≡ 1 → width_of kind ≡ 58
-  unfolding width_of
-  width_response e = rw e
-
-  pub width_update : kind ≡ 2 → width_of kind ≡ 58
-  unfolding width_of
-  width_update e = rw e
-
-  pub width_else : (kind ≡ 1 → ⊥) → (kind ≡ 2 → ⊥) → width_of kind ≡ 18
-  unfolding width_of
-  width_else f g = rw (ne_eqb kind 1 f, ne_eqb kind 2 g)
-
   pub width_bounds : (18 ≤ width_of kind) × (width_of kind ≤ 58)
   unfolding width_of
   width_bounds = bounds (eqb kind 1 || eqb kind 2)

@@ -9,7 +9,7 @@ use lib.Count.{count_leading_zeros}
 use Rattle.aggregate.specs.Serving.{served_of, log_of}
 use Rattle.aggregate.specs.Running as running
 use Rattle.aggregate.specs.declared.Totals.{Totals}
-use Rattle.aggregate.specs.declared.Ran.{Ran}
+use Rattle.aggregate.specs.Told.{Ran}
 use Rattle.aggregate.proofs.Listing.{ran_is, answers_are, all_done}
 use Rattle.aggregate.proofs.Speaking.{run_logged}
 use Rattle.fields.specs.Bits.{weight, digit, patch, bit, put_bit}

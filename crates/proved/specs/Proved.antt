@@ -1,26 +1,23 @@
 -- Document 01's cases marked P, in one table: what is handed in, and what comes of it. Bytes are hexadecimal.
-use Rattle.std.specs.Prelude.{◌≡◌, List, [], ◌∷◌, ◌++◌, ℕ, ◌-◌, ℤ, pos, negsuc, length, replicate, take}
+use Rattle.std.specs.Prelude.{◌≡◌, List, [], ◌∷◌, ◌++◌, ℕ, ◌-◌, ℤ, pos, negsuc, length, replicate, take, Some, Ok}
 use Rattle.aggregate.specs.Serving.{served_of, log_of}
 use Rattle.aggregate.specs.Running.{ran_of, answers_of, run_log_of}
-use Rattle.aggregate.specs.declared.Outcome.{Outcome as Answer}
+use Rattle.aggregate.specs.Told.{Outcome as Answer, Ran}
 use Rattle.aggregate.specs.declared.Totals.{Totals}
-use Rattle.aggregate.specs.declared.Ran.{Ran}
 use Rattle.messages.specs.Records.{bits_of}
-use Rattle.messages.specs.Reading.{entry_at, messages_from}
+use Rattle.messages.specs.Reading.{Entry, entry_at, messages_from}
 use Rattle.messages.specs.Writing.{log_after}
 use Rattle.messages.specs.declared.Message.{Message}
 use Rattle.messages.specs.declared.Message.TheVariants.{Probe, Response, Update, Release}
-use Rattle.messages.specs.declared.Entry.{Entry}
-use Rattle.messages.specs.declared.Entry.TheVariants.{Read}
 use Rattle.requests.specs.Reading.{requests_of, judged_of}
 use Rattle.requests.specs.Reading.{refused as list_refused}
-use Rattle.requests.specs.declared.Judged.{Judged}
+use Rattle.requests.specs.Told.{Judged}
 use Rattle.requests.specs.declared.Request.{Request}
 use Rattle.requests.specs.declared.Request.TheVariants.{Combine, Write}
 use Rattle.session.specs.Starting.{fresh_of}
 use Rattle.session.specs.declared.Session.{Session}
 use Rattle.table.specs.Reading.{accepted, refused, reading_of}
-use Rattle.table.specs.declared.Reading.{Reading}
+use Rattle.table.specs.Told.{Reading}
 use Rattle.tree.specs.declared.Tree.{Tree}
 
 pub data Input : Type 0 where
@@ -183,8 +180,8 @@ cases =
     ∷ record { input = requests (0x00 ∷ 0x0C ∷ 0x08 ∷ 0x00 ∷ 0x00 ∷ 0x00 ∷ 0x14 ∷ []); output = asks (Write 2 (pos 5) ∷ []) }
     ∷ record { input = list (0x80 ∷ 0x08 ∷ []); output = judges (list_refused 5) }
     -- a probe from 0 to 1; a response from 1 to 0 with -1
-    ∷ record { input = log 3 (Probe 0 1); output = logs (0x00 ∷ 0x00 ∷ 0x40 ∷ []) (Read (Probe 0 1) 18) }
-    ∷ record { input = log 8 (Response 1 0 (negsuc 0)); output = logs (0x40 ∷ 0x40 ∷ 0x3F ∷ 0xFF ∷ 0xFF ∷ 0xFF ∷ 0xFF ∷ 0xC0 ∷ []) (Read (Response 1 0 (negsuc 0)) 58) }
+    ∷ record { input = log 3 (Probe 0 1); output = logs (0x00 ∷ 0x00 ∷ 0x40 ∷ []) (Ok (Some (Probe 0 1, 18))) }
+    ∷ record { input = log 8 (Response 1 0 (negsuc 0)); output = logs (0x40 ∷ 0x40 ∷ 0x3F ∷ 0xFF ∷ 0xFF ∷ 0xFF ∷ 0xFF ∷ 0xC0 ∷ []) (Ok (Some (Response 1 0 (negsuc 0), 58))) }
     ∷ star
     -- the path's list, judged and read
     ∷ record { input = list path_list; output = judges (record { refusal = 0; requests = 6; combines = 3; first = 13 }) }

@@ -10,7 +10,7 @@ use Rattle.requests.specs.Lists.{AllSized, part_of, parts_of, combines_in}
 use Rattle.requests.specs.Promises.{CountsRight, ReadSized}
 use Rattle.requests.specs.Reading.{next_place, count_at, place_of, requests_from, combines_to}
 use Rattle.requests.specs.declared.Request.{Request}
-use Rattle.requests.specs.declared.Judged.{Judged}
+use Rattle.requests.specs.Told.{Judged}
 use Rattle.requests.proofs.OneField.{stands, read_as}
 use Rattle.requests.proofs.Refusals.{list_ruled_exactly, judged_whole}
 

@@ -7,7 +7,6 @@ use native.Mathlib.Numerals.{add-one}
 use native.Mathlib.Omega.{arith}
 use lib.ListN.{length}
 use Rattle.fields.specs.Usable.{field_at}
-use Rattle.fields.specs.declared.Field.TheVariants as finding
 use Rattle.fields.proofs.Rooms.{first_found, first_cut_off}
 use Rattle.packed.specs.Parts.{ends}
 use Rattle.packed.proofs.Filling.{ends_exactly, left_over_exactly}
@@ -16,18 +15,22 @@ use Rattle.requests.specs.Format.{Counted, no_count, bad_count, no_request, left
 use Rattle.requests.specs.Reading.{request_at, next_place, item_at, told, place_of, combines_to, refused, judged_of}
 use Rattle.requests.specs.declared.Request.{Request}
 use Rattle.requests.specs.declared.Request.TheVariants.{Combine, Write}
-use Rattle.requests.specs.declared.Item.TheVariants.{Found, Short}
+use Rattle.std.specs.Prelude.{Ok, Err}
+use Rattle.refusal.specs.Numbers.{number}
+use Rattle.refusal.specs.declared.Refusal.{Refusal}
 use Rattle.requests.proofs.Places.{place_next, place_most}
-use Rattle.requests.proofs.Items.{item_exactly, item_short_exactly}
+use Rattle.requests.proofs.Items.{item_exactly, cut_item}
 use Rattle.requests.proofs.Refusals.{usable, judged_refused, judged_whole}
 
 -- ---- the count
 
 module _ (s : List ℕ) where
-  pub count_cut : field_at s 0 13 ≡ finding.Short → judged_of s ≡ refused 1
-  count_cut f = judged_refused s (no_count (first_cut_off s 13 (omega arith) f))
+  pub count_cut : (r : Refusal) → field_at s 0 13 ≡ Err r → judged_of s ≡ refused (number r)
+  count_cut r e =
+      let c = first_cut_off s 13 (omega arith) r e in
+      rw c.0 (judged_refused s (no_count c.1))
 
-  module _ (n : ℕ) (f : field_at s 0 13 ≡ finding.Value n) where
+  module _ (n : ℕ) (f : field_at s 0 13 ≡ Ok n) where
     pub count_many : 4096 < n → judged_of s ≡ refused 5
     count_many h = let c = first_found s 13 n f in judged_refused s (bad_count c.0 (rw c.1 at h))
 
@@ -65,7 +68,7 @@ module _ (s : List ℕ) (n : ℕ) (g : Counted s n) where
     next_place_lem = ap (next_place s) w.here ∙ sym (place_next s k)
 
     module _ (l : k < n) where
-      pub went_on : (r : Request) (next more : ℕ) → item_at s place ≡ Found r next → more ≡ combines + one_if_combine r → Went s n next more (k + 1)
+      pub went_on : (r : Request) (next more : ℕ) → item_at s place ≡ Ok (r, next) → more ≡ combines + one_if_combine r → Went s n next more (k + 1)
       went_on r next more e m =
           let f = (item_exactly s place next r).0 (ap told e) in
           rw (add-one k) (record { turns = omega arith; here = f.2 ∙ next_place_lem; inside = omega (arith, f.0, f.2); sum = m ∙ combines_next f.1 })
@@ -73,10 +76,10 @@ module _ (s : List ℕ) (n : ℕ) (g : Counted s n) where
           combines_next : r ≡ request_at s place → combines + one_if_combine r ≡ combines_to s (suc k)
           combines_next e = unfold combines_to in rw (e, w.sum, w.here)
 
-      pub went_short : (number : ℕ) → item_at s place ≡ Short → number ≡ 1 → judged_of s ≡ refused number
-      went_short number e one =
-          rw one (judged_refused s
-          (no_request n k g l (omega (arith, w.here, w.inside)) (omega (arith, (item_short_exactly s place).0 (ap told e), next_place_lem, place_most s (suc k), g.few))))
+      pub went_short : (r : Refusal) → item_at s place ≡ Err r → judged_of s ≡ refused (number r)
+      went_short r e =
+          let c = cut_item s place r e in
+          rw c.0 (judged_refused s (no_request n k g l (omega (arith, w.here, w.inside)) (omega (arith, c.1, next_place_lem, place_most s (suc k), g.few))))
 
     -- all are read, and the end is looked for at that place
     module _ (l : n ≤ k) (end : ℕ) (here : end ≡ place) where

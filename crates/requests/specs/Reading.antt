@@ -1,5 +1,8 @@
 -- What the reader finds at a place of a list, and what it answers of the whole, as a computation.
-use Rattle.std.specs.Prelude.{◌≡◌, Bool, cond, List, [], ◌∷◌, ℕ, zero, suc, ◌+◌, ◌*◌, eqb, leb, length}
+use Rattle.std.specs.Prelude.{◌≡◌, Bool, cond, List, [], ◌∷◌, ℕ, zero, suc, ◌+◌, ◌*◌, eqb, leb, length, Result, Ok, Err}
+use Rattle.refusal.specs.Numbers.{number}
+use Rattle.refusal.specs.declared.Refusal.{Refusal}
+use Rattle.refusal.specs.declared.Refusal.TheVariants.{Short}
 use Rattle.fields.specs.Fields.{field}
 use Rattle.fields.specs.Usable.{usable_bits}
 use Rattle.twos.specs.Twos.{signed}
@@ -7,9 +10,7 @@ use Rattle.packed.specs.Parts.{ends}
 use Rattle.requests.specs.Lists.{one_if_combine}
 use Rattle.requests.specs.declared.Request.{Request}
 use Rattle.requests.specs.declared.Request.TheVariants.{Combine, Write}
-use Rattle.requests.specs.declared.Item.{Item}
-use Rattle.requests.specs.declared.Item.TheVariants.{Found, Short}
-use Rattle.requests.specs.declared.Judged.{Judged}
+use Rattle.requests.specs.Told.{Judged}
 
 -- ---- one request
 
@@ -23,13 +24,17 @@ request_at s place = cond (is_combine s place) (Combine (field s (place + 1) 8))
 unfoldable pub next_place : List ℕ → ℕ → ℕ
 next_place s place = place + cond (is_combine s place) 9 41
 
+-- what reading a request answers: the request and the place after it, or a refusal
+abbrev pub Item : Type 0
+Item = Result (Request × ℕ) Refusal
+
 unfoldable pub item_at : List ℕ → ℕ → Item
-item_at s place = cond (leb (next_place s place) (usable_bits (length s))) (Found (request_at s place) (next_place s place)) Short
+item_at s place = cond (leb (next_place s place) (usable_bits (length s))) (Ok (request_at s place, next_place s place)) (Err Short)
 
 -- document 01's number for what was found, and the request with the next place if there is one
 abbrev pub told : Item → ℕ × List (Request × ℕ)
-told (Found r next) = (0, (r, next) ∷ [])
-told Short = (1, [])
+told (Ok x) = (0, x ∷ [])
+told (Err r) = (number r, [])
 
 -- from place on the reader hands out these requests one behind the other
 abbrev pub Hands : List ℕ → ℕ → List Request → Type 0

@@ -8,32 +8,20 @@
 
 mod files; // reading a file
 mod serve; // the requests of a list
-mod show; // printing
 
-use session::{Session, Started};
+use session::Session;
 use std::io;
 use std::rt::Files;
-use tree::Tree;
 
 // The table is judged first: where it is refused, the list is not read. What cannot be printed ends
 // the program with that error.
 fn main(rt: HostRuntime) -> io::Result<()> {
     let mut room = [0u8; 226];
     let size = files::read(&rt, "tree.tab", &mut room);
-    let started = loaded(&room[..size]);
-    if started.refusal != 0 {
-        return show::table_refused(&rt, started.refusal);
+    match table::read(&room[..size]).and_then(Session::fresh) {
+        Ok(session) => requests(&rt, session),
+        Err(refusal) => println!(rt; "table {}", u8::from(refusal)),
     }
-    requests(&rt, started.session)
-}
-
-// A session of the table's tree, which replaces one of no nodes.
-fn loaded(table: &[u8]) -> Started {
-    let none = Session::fresh(Tree {
-        count: 0,
-        parents: [0; 256],
-    });
-    none.session.load(table)
 }
 
 fn requests(rt: &(impl Files + Print), session: Session) -> io::Result<()> {

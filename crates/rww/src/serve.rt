@@ -1,46 +1,47 @@
 // The requests of a list, one by one.
-use crate::show;
 use aggregate::Served;
-use requests::{Item, Request};
+use refusal::Refusal;
+use requests::Request;
 use session::Session;
 use std::io;
 
-// Judges a list, then serves its requests up to the first that is refused.
-pub fn list(rt: &impl Print, session: Session, list: &[u8]) -> io::Result<()> {
-    let judged = requests::judge(list);
-    if judged.refusal != 0 {
-        return show::list_refused(rt, judged.refusal);
-    }
-    let mut session = session;
+// Judges a list, then serves its requests up to the first that is refused, and prints what comes of
+// each.
+pub fn list(rt: &impl Print, mut session: Session, list: &[u8]) -> io::Result<()> {
+    let judged = match requests::judge(list) {
+        Ok(judged) => judged,
+        Err(refusal) => return println!(rt; "list {}", u8::from(refusal)),
+    };
     let mut place = judged.first;
     let mut sum: u64 = 0;
     for index in 0..judged.requests {
         // An accepted list has every request.
-        let Item::Found(request, next) = requests::request_at(list, place) else {
+        let Ok((request, next)) = requests::request_at(list, place) else {
             return Ok(());
         };
-        let served = one(session, request);
-        if served.outcome.refusal != 0 {
-            return show::request_refused(rt, index, served.outcome.refusal);
+        let served = match one(session, request) {
+            Ok(served) => served,
+            Err(refusal) => return println!(rt; "request {index} {}", u8::from(refusal)),
+        };
+        let outcome = served.outcome;
+        let messages = outcome.messages;
+        match request {
+            Request::Combine(node) => println!(rt; "C {node} {} {messages}", outcome.answer)?,
+            Request::Write(node, value) => println!(rt; "W {node} {value} {messages}")?,
         }
-        show::request(rt, request, served.outcome)?;
         session = served.session;
         place = next;
-        sum += served.outcome.messages as u64;
+        sum += u64::from(messages);
     }
-    show::total(rt, sum)
+    println!(rt; "total {sum}")
 }
 
 // One request, with a log of its own: from bit 0 on, with room for the 19,380 bits that a request
 // takes at most.
-fn one(session: Session, request: Request) -> Served {
+fn one(session: Session, request: Request) -> Result<Served, Refusal> {
     let mut log = [0u8; 2423];
-    logged(session, request, &mut log)
-}
-
-fn logged(session: Session, request: Request, log: &mut [u8]) -> Served {
     match request {
-        Request::Combine(node) => aggregate::combine(session, node as usize, log, 0),
-        Request::Write(node, value) => aggregate::write(session, node as usize, value, log, 0),
+        Request::Combine(node) => aggregate::combine(session, node as usize, &mut log, 0),
+        Request::Write(node, value) => aggregate::write(session, node as usize, value, &mut log, 0),
     }
 }

@@ -7,6 +7,7 @@ use Rattle.session.proofs.Told.{started_apart}
 use Rattle.session.proofs.Session.fresh.Reads as fresh
 use Rattle.session.proofs.Session.load.Reads as load
 use Rattle.session.proofs.Session.is_sound.Reads as is_sound
+use Rattle.session.proofs.parts.parts_are_sound.Reads as parts_are_sound
 use Rattle.session.proofs.Session.write_table.Reads as write_table
 
 pub fresh_once : OneResult fresh.Post
@@ -17,6 +18,9 @@ load_once κ a x y s t p q = started_apart _ x y (p ∙ sym q)
 
 pub is_sound_once : OneResult is_sound.Post
 is_sound_once κ a x y s t p q = p ∙ sym q
+
+pub parts_are_sound_once : OneResult parts_are_sound.Post
+parts_are_sound_once κ a x y s t p q = p ∙ sym q
 
 pub write_table_once : OneOutcome write_table.Post (λ κ s. s.1.0.now)
 write_table_once κ a x y s t p q = (written_apart x y (p.0 ∙ sym q.0), p.1 ∙ sym q.1)

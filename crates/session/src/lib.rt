@@ -6,6 +6,7 @@
 
 mod entry; // the entries of pairs
 mod order; // the inequality between neighbouring pairs
+mod parts; // a session handed in by its parts
 mod pass; // passes over all of a list
 
 ghost use Rattle.std.specs.Prelude.{◌≡◌, length};
@@ -15,6 +16,7 @@ ghost use Rattle.session.specs.Tables.{written_of, output_of};
 ghost use Rattle.session.specs.Told.{told_started};
 ghost use Rattle.table.specs.Told.{told_written};
 
+pub use parts::parts_are_sound;
 use refusal::Refusal;
 use tree::Tree;
 

@@ -2,19 +2,23 @@
 use mathlib.Core.Path.{◌≡◌, refl, sym, ap, ap₂, ◌∙◌}
 use mathlib.Core.Bool.{true, false, and-false}
 use mathlib.Core.List.{List, [], ◌∷◌, ◌++◌, append-nil}
-use Prim.Native.Nat.{ℕ, zero, suc, ◌+◌, ◌<◌, ◌≤◌}
+use Prim.Native.Nat.{ℕ, zero, suc, ◌+◌, ◌<◌, ◌≤◌, min}
 use native.Mathlib.Nat.{add-zero}
 use native.Mathlib.Numerals.{add-one}
 use native.Mathlib.Omega.{arith}
-use lib.ListN.{get_or, set, length, length-set}
+use lib.ListN.{get_or, set, take, length, length-set}
+use Rattle.std.proofs.lemmas.List.{get_or-take}
 use lib.Seq.{get_or-set_same, get_or-set_other, append_snoc}
 use borrow.Author.Tests.{lt-ltb, le-ltb}
 use Rattle.messages.specs.Records.{bits_of, fits, Sized, AllSized, coded}
 use Rattle.messages.specs.Reading.{decoded}
 use Rattle.messages.specs.Writing.{recorded_of, log_after, bits_of_all}
 use Rattle.messages.specs.declared.Message.{Message}
-use Rattle.messages.specs.declared.Recorded.{Recorded}
-use Rattle.trace.specs.inner.Traces.{Trace, trace, pushed, pushed_all, messages_in, messages_of, Writing, writing, placed, noted, noted_all}
+use Rattle.std.specs.Prelude.{Result}
+use Rattle.std.specs.Result.{result_unwrap_or}
+use Rattle.refusal.specs.declared.Refusal.{Refusal}
+use Rattle.trace.specs.declared.Trace.{Trace}
+use Rattle.trace.specs.inner.Traces.{trace, pushed, pushed_all, messages_in, messages_of, Writing, writing, noted, noted_all}
 use Rattle.trace.specs.Promises.{TraceHolds}
 use Rattle.messages.proofs.Coding.{coded_back}
 use Rattle.messages.proofs.Stretches.{bits_append}
@@ -31,12 +35,22 @@ module _ (ns : List ℕ) (i : ℕ) (m : Message) (next : m ≡ decoded (get_or n
   unfolding messages_in bits_of_all
   bits_next bits w e f = rw (add-one, e, f, next) (omega (arith, bits_append (messages_in ns i) (decoded (get_or ns i 0) ∷ [])))
 
-  pub noted_next : (w : Writing) {s s' : List ℕ} {at at' : ℕ} {x : Recorded} → writing s at ≡ noted_all (messages_in ns i) w → x ≡ recorded_of (length s) at m → s' ≡ log_after s at m → at' ≡ placed x at
+  pub noted_next : (w : Writing) {s s' : List ℕ} {at at' : ℕ} {x : Result ℕ Refusal} → writing s at ≡ noted_all (messages_in ns i) w → x ≡ recorded_of (length s) at m → s' ≡ log_after s at m → at' ≡ result_unwrap_or x at
       → writing s' at' ≡ noted_all (messages_in ns (i + 1)) w
   unfolding messages_in
   noted_next w {s} {s'} {at} {at'} {x} e f g h =
       let n : writing s' at' ≡ noted m (writing s at) = rw (h, f, g) in
       n ∙ ap (noted m) e ∙ rw (add-one, next) (sym (noted_more (messages_in ns i) (decoded (get_or ns i 0)) w))
+
+-- ---- the messages of the numbers that count are all that the trace has
+
+used_in : (ns : List ℕ) (n k : ℕ) → k ≤ n → messages_in (take n ns) k ≡ messages_in ns k
+unfolding messages_in
+used_in ns n zero h = refl
+used_in ns n (suc k) h = ap₂ (λ (l : List Message) (m : ℕ). l ++ (decoded m ∷ [])) (used_in ns n k (omega arith)) (get_or-take n ns k 0 (omega arith))
+
+pub used_all : (ns used : List ℕ) (len k : ℕ) → used ≡ take (min len 510) ns → k ≡ min len 510 → messages_in used k ≡ messages_of ns len
+used_all ns used len k e f = rw (e, f) (used_in ns (min len 510) (min len 510) (omega arith))
 
 -- ---- a trace holds what was pushed
 

@@ -22,10 +22,12 @@ use Rattle.messages.specs.declared.Message.TheVariants.{Probe, Response, Update,
 use Rattle.messages.proofs.Answers.{answer_next}
 use Rattle.messages.proofs.Logs.{log_length_kept}
 use Rattle.messages.proofs.Stretches.{sized_append}
-use Rattle.trace.specs.inner.Traces.{messages_in, logged_of, log_after_all, told_logged, Writing, writing, noted_all}
+use Rattle.refusal.specs.Numbers.{told}
+use Rattle.refusal.specs.declared.Refusal.{Refusal}
+use Rattle.refusal.specs.declared.Refusal.TheVariants.{NoRoom}
+use Rattle.std.specs.Prelude.{Result, Ok, Err}
+use Rattle.trace.specs.inner.Traces.{messages_in, logged_of, log_after_all, Writing, writing, noted_all}
 use Rattle.trace.specs.Promises.{TraceLoggedExactly, TraceFullExactly, TraceLogKept}
-use Rattle.trace.specs.declared.Logged.{Logged}
-use Rattle.trace.specs.declared.Logged.TheVariants.{Next, Full}
 
 -- ---- every message of a trace fits its record
 
@@ -64,16 +66,16 @@ noted_all_lem (m ∷ ms) log place h (one, all) =
     rw (w, e) (noted_all_lem ms (log_after log place m) (place + bits_of m) (rw (log_length_kept log place (m ∷ [])) (rw e at h)) all)
 
 module _ (n place : ℕ) (ms : List Message) where
-  told_next : place + bits_of_all ms ≤ usable_bits n → logged_of n place ms ≡ Next (place + bits_of_all ms)
+  told_next : place + bits_of_all ms ≤ usable_bits n → logged_of n place ms ≡ Ok (place + bits_of_all ms)
   unfolding logged_of
   told_next h = rw (le-leb (place + bits_of_all ms) (usable_bits n) h)
 
-  told_full : usable_bits n < place + bits_of_all ms → logged_of n place ms ≡ Full
+  told_full : usable_bits n < place + bits_of_all ms → logged_of n place ms ≡ Err NoRoom
   unfolding logged_of
   told_full h = rw (lt-leb (place + bits_of_all ms) (usable_bits n) h)
 
   -- there is no other case
-  by_case : (P : Logged → Type 0) → (place + bits_of_all ms ≤ usable_bits n → P (Next (place + bits_of_all ms))) → (usable_bits n < place + bits_of_all ms → P Full) → P (logged_of n place ms)
+  by_case : (P : Result ℕ Refusal → Type 0) → (place + bits_of_all ms ≤ usable_bits n → P (Ok (place + bits_of_all ms))) → (usable_bits n < place + bits_of_all ms → P (Err NoRoom)) → P (logged_of n place ms)
   by_case P next full = go (dec_le (place + bits_of_all ms) (usable_bits n))
     where
       go : Dec (place + bits_of_all ms ≤ usable_bits n) → P (logged_of n place ms)
@@ -86,16 +88,16 @@ code t = t.0
 
 pub trace_logged_exactly : TraceLoggedExactly
 trace_logged_exactly n place next ms = (
-  by_case n place ms (λ x. told_logged x ≡ (0, next) → (place + bits_of_all ms ≤ usable_bits n) × (next ≡ place + bits_of_all ms))
+  by_case n place ms (λ x. told 0 x ≡ (0, next) → (place + bits_of_all ms ≤ usable_bits n) × (next ≡ place + bits_of_all ms))
       (λ h e. (h, sym (ap (λ (t : ℕ × ℕ). t.1) e)))
       (λ h e. absurd (suc-ne-zero 8 (ap code e))),
-  λ (h, e). ap told_logged (told_next n place ms h) ∙ ap (λ (p : ℕ). (0, p)) (sym e),
+  λ (h, e). ap (told 0) (told_next n place ms h) ∙ ap (λ (p : ℕ). (0, p)) (sym e),
 )
 
 pub trace_full_exactly : TraceFullExactly
 trace_full_exactly n place ms = (
-  by_case n place ms (λ x. told_logged x ≡ (9, 0) → usable_bits n < place + bits_of_all ms) (λ h e. absurd (suc-ne-zero 8 (sym (ap code e)))) (λ h e. h),
-  λ h. ap told_logged (told_full n place ms h),
+  by_case n place ms (λ x. told 0 x ≡ (9, 0) → usable_bits n < place + bits_of_all ms) (λ h e. absurd (suc-ne-zero 8 (sym (ap code e)))) (λ h e. h),
+  λ h. ap (told 0) (told_full n place ms h),
 )
 
 pub trace_log_kept : TraceLogKept
@@ -103,14 +105,14 @@ unfolding log_after_all
 trace_log_kept log place ms h = rw (lt-leb (place + bits_of_all ms) (usable_bits (length log)) h)
 
 module _ (log : List ℕ) (place : ℕ) (ms : List Message) where
-  pub none_logged : usable_bits (length log) < place + bits_of_all ms → (Full ≡ logged_of (length log) place ms) × (log ≡ log_after_all log place ms)
+  pub none_logged : usable_bits (length log) < place + bits_of_all ms → (Err NoRoom ≡ logged_of (length log) place ms) × (log ≡ log_after_all log place ms)
   none_logged h = (sym (told_full (length log) place ms h), sym (trace_log_kept log place ms h))
 
   pub all_logged : place + bits_of_all ms ≤ usable_bits (length log) → AllSized ms → (log' : List ℕ) (next : ℕ) → writing log' next ≡ noted_all ms (writing log place)
-      → (Next next ≡ logged_of (length log) place ms) × (log' ≡ log_after_all log place ms)
+      → (Ok next ≡ logged_of (length log) place ms) × (log' ≡ log_after_all log place ms)
   unfolding log_after_all
   all_logged h sized log' next e =
       let is = e ∙ noted_all_lem ms log place h sized in (
-        ap (λ (w : Writing). Next w.place) is ∙ sym (told_next (length log) place ms h),
+        ap (λ (w : Writing). Ok w.place) is ∙ sym (told_next (length log) place ms h),
         rw (le-leb (place + bits_of_all ms) (usable_bits (length log)) h) (ap (λ (w : Writing). w.log) is),
       )

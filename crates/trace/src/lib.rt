@@ -4,93 +4,88 @@
 // for 510 messages, and of a length above that only 510 are ever used.
 #![tactic(auto)]
 
-ghost use Rattle.std.specs.Prelude.{◌≡◌, ◌≤◌, min, length};
+ghost use Rattle.std.specs.Prelude.{◌≡◌, min, length, take};
 ghost use Rattle.messages.specs.Writing.{bits_of_all};
 ghost use Rattle.trace.specs.inner.Traces as spec;
 
-use messages::{Coded, Message, Recorded};
+use messages::Message;
+use refusal::Refusal;
 
-// What logging a trace answers.
+// Room for the numbers of 510 messages, and how many of them count.
 #[derive(Clone, Copy)]
-pub enum Logged {
-    // the place after the trace's last record
-    Next(usize),
-    // the place is past the usable log, or there are too few bits for all records
-    Full,
+pub struct Trace {
+    pub numbers: [u64; 510],
+    pub len: usize,
 }
 
-// Pushes a message, and answers the length then. Where its value does not fit 40 bits, or the trace is
-// full, nothing is added, and the length is the one that was handed in.
-pub fn push(trace: &mut [u64; 510], len: usize, message: Message) -> usize
-    ensures { spec.trace trace.new result ≡ spec.pushed message (spec.trace trace.old len) }
-{
-    let Coded::Number(number) = messages::code(message) else {
-        return len;
-    };
-    if len < 510 {
-        trace[len] = number;
-        return len + 1;
+impl Trace {
+    // A trace of no message.
+    pub fn new() -> Trace
+        ensures { result ≡ spec.empty }
+    {
+        Trace {
+            numbers: [0; 510],
+            len: 0,
+        }
     }
-    len
-}
 
-// Logs the first len messages from place on, all of them or none.
-pub fn log(log: &mut [u8], place: usize, trace: &[u64; 510], len: usize) -> Logged
-    ensures { (result ≡ spec.logged_of (length log.old) place (spec.messages_of trace.now len)) × (log.new ≡ spec.log_after_all log.old place (spec.messages_of trace.now len)) }
-{
-    let end = fields::usable_bits(log.len());
-    if end < place {
-        return Logged::Full;
+    // Adds a message. Where its value does not fit 40 bits, or the trace is full, nothing is added.
+    pub fn push(&mut self, message: Message)
+        ensures { self.new ≡ spec.pushed message self.old }
+    {
+        let Ok(number) = messages::code(message) else {
+            return;
+        };
+        if self.len < 510 {
+            self.numbers[self.len] = number;
+            self.len += 1;
+        }
     }
-    if end - place < bits(trace, len) {
-        return Logged::Full;
+
+    // The numbers that count.
+    pub fn used(&self) -> &[u64]
+        ensures { (result.now ≡ take (min self.now.len 510) self.now.numbers) × (length result.now ≡ min self.now.len 510) }
+    {
+        &self.numbers[..self.len.min(510)]
     }
-    Logged::Next(record(log, place, trace, len))
-}
 
-// How many bits the records of the first len messages have.
-fn bits(trace: &[u64; 510], len: usize) -> usize
-    ensures { result ≡ bits_of_all (spec.messages_of trace.now len) }
-{
-    let end = most(len);
-    let mut bits = 0;
-    let mut i: usize = 0;
-    while i < end {
-        bits += messages::bits(messages::decode(trace[i]));
-        i += 1;
+    // Logs the messages from a place on, all of them or none, and answers the place after them. Refusal:
+    // 9 the place is past the usable log, or there are too few bits for all records.
+    pub fn log(&self, log: &mut [u8], place: usize) -> Result<usize, Refusal>
+        ensures { (result ≡ spec.logged_of (length log.old) place (spec.messages_of self.now.numbers self.now.len)) × (log.new ≡ spec.log_after_all log.old place (spec.messages_of self.now.numbers self.now.len)) }
+    {
+        let end = fields::usable_bits(log.len());
+        if end < place {
+            return Err(Refusal::NoRoom);
+        }
+        if end - place < self.bits() {
+            return Err(Refusal::NoRoom);
+        }
+        Ok(self.record(log, place))
     }
-    bits
-}
 
-// Logs the first len messages from place on, and answers the place after them. A message that is
-// refused is left out.
-fn record(log: &mut [u8], place: usize, trace: &[u64; 510], len: usize) -> usize
-    ensures { spec.writing log.new result ≡ spec.noted_all (spec.messages_of trace.now len) (spec.writing log.old place) }
-{
-    let end = most(len);
-    let mut at = place;
-    let mut i: usize = 0;
-    while i < end {
-        at = placed(messages::write(log, at, messages::decode(trace[i])), at);
-        i += 1;
+    // How many bits the records of the messages have.
+    fn bits(&self) -> usize
+        ensures { result ≡ bits_of_all (spec.messages_of self.now.numbers self.now.len) }
+    {
+        let used = self.used();
+        let mut bits = 0;
+        for number in used {
+            bits += messages::bits(messages::decode(*number));
+        }
+        bits
     }
-    at
-}
 
-// How many messages of a trace are used.
-fn most(len: usize) -> usize
-    ensures { (result ≡ min len 510) × (result ≤ 510) }
-{
-    if len < 510 { len } else { 510 }
-}
-
-// The place after a message was written; the same place where it was not written.
-fn placed(written: Recorded, place: usize) -> usize
-    ensures { result ≡ spec.placed written place }
-{
-    match written {
-        Recorded::Next(next) => next,
-        Recorded::Full => place,
-        Recorded::Misfit => place,
+    // Logs the messages from a place on, and answers the place after them. A message that is refused is
+    // left out.
+    fn record(&self, log: &mut [u8], place: usize) -> usize
+        ensures { spec.writing log.new result ≡ spec.noted_all (spec.messages_of self.now.numbers self.now.len) (spec.writing log.old place) }
+    {
+        let used = self.used();
+        let mut at = place;
+        for number in used {
+            at = messages::write(log, at, messages::decode(*number)).unwrap_or(at);
+        }
+        at
     }
 }

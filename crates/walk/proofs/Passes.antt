@@ -8,7 +8,7 @@ use native.Mathlib.Nat.{add-zero, le_refl}
 use native.Mathlib.Decide.{ℕ_discrete}
 use native.Mathlib.Omega.{arith}
 use lib.IntN.{ℤ, pos, ◌+ℤ◌}
-use lib.ListN.{get_or, set, length, length-set}
+use lib.ListN.{get_or, set, length, length-set, replicate, length-replicate, get_or-replicate}
 use lib.Seq.{get_or-set_same, get_or-set_other}
 use mir.Syntax.{w64}
 use mir.Val.{SFits}
@@ -23,7 +23,7 @@ use Rattle.session.specs.Holding.{pair_at}
 use Rattle.mechanism.specs.Views.{View}
 use Rattle.mechanism.specs.Spreading.{add_if}
 use Rattle.tree.proofs.Children.{child_is}
-use Rattle.walk.specs.inner.Laters.{known, away, later, Passing, Passed, Cleared}
+use Rattle.walk.specs.inner.Laters.{known, away, later, Passing, Passed}
 use Rattle.walk.proofs.Neighbours.{near_below, near_self, near_above}
 use Rattle.walk.proofs.Ways.{Ahead, ahead_none, on_way, off_way, ahead_on, ahead_off}
 
@@ -96,28 +96,16 @@ later_none : (q : View) (x u m : ℕ) → m ≡ 0 → later q x u m ≡ pos 0
 unfolding later
 later_none q x u m e = rw e
 
--- one more place is cleared
-pub cleared_none : {l : List ℤ} → length l ≡ 256 → Cleared 0 l
-cleared_none long = record { long = long; zeros = λ u h. absurd (omega arith) }
-
-pub cleared_next : {l : List ℤ} {u : ℕ} → Cleared u l → u < 256 → Cleared (u + 1) (set l u (pos 0))
-cleared_next {l} {u} c h =
-    record {
-      long = rw length-set c.long;
-      zeros = λ v m. either (ℕ_discrete v u)
-          (λ e. rw e (get_or-set_same l u (pos 0) (pos 0) (omega (arith, c.long))))
-          (λ d. get_or-set_other l u v (pos 0) (pos 0) d ∙ c.zeros v (omega arith));
-    }
-
-pub passes_none : {q : View} {x : ℕ} {up down : List ℤ} → Passing q x → Cleared q.count up → length down ≡ 256 → Passes q x up down x q.count
-passes_none {q} {x} h c long =
+-- at first there are zeros
+pub passes_none : {q : View} {x : ℕ} → Passing q x → Passes q x (replicate 256 (pos 0)) (replicate 256 (pos 0)) x q.count
+passes_none {q} {x} h =
     record {
       low = omega (arith, h.inside);
       high = le_refl q.count;
-      up_room = c.long;
-      down_room = long;
+      up_room = length-replicate 256 (pos 0);
+      down_room = length-replicate 256 (pos 0);
       ahead = ahead_none h.inside;
-      rising = λ u l. c.zeros u l ∙ sym (later_none q x u (q.count - q.count) (omega arith));
+      rising = λ u l. get_or-replicate 256 u (pos 0) (pos 0) (omega (arith, h.room)) ∙ sym (later_none q x u (q.count - q.count) (omega arith));
       risen = λ u l m. absurd (omega arith);
       kept = λ w l m. absurd (omega arith);
     }

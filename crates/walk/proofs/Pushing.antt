@@ -2,7 +2,8 @@
 use mathlib.Core.Path.{◌≡◌, refl, ap, ◌∙◌}
 use mathlib.Core.List.{List, [], ◌∷◌, ◌++◌}
 use Rattle.messages.specs.declared.Message.{Message}
-use Rattle.trace.specs.inner.Traces.{Trace, pushed, pushed_all}
+use Rattle.trace.specs.declared.Trace.{Trace}
+use Rattle.trace.specs.inner.Traces.{pushed, pushed_all}
 
 pub pushed_all-none : (t : Trace) → pushed_all [] t ≡ t
 unfolding pushed_all

@@ -23,7 +23,8 @@ use Rattle.session.specs.Holding.{pair_at}
 use Rattle.mechanism.specs.Views.{View}
 use Rattle.mechanism.specs.Spreading.{add_if, carried, sends, spread}
 use Rattle.mechanism.proofs.Others.{size_most}
-use Rattle.trace.specs.inner.Traces.{Trace, pushed, pushed_all}
+use Rattle.trace.specs.declared.Trace.{Trace}
+use Rattle.trace.specs.inner.Traces.{pushed, pushed_all}
 use Rattle.walk.specs.inner.Links.{Found, neighbour_at, Placed}
 use Rattle.walk.specs.inner.Laters.{known}
 use Rattle.walk.specs.inner.Telling.{before, Spreading, Telling, Spread, Told}

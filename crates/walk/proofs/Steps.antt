@@ -17,7 +17,8 @@ use Rattle.tree.proofs.Turns.{turn_inside}
 use Rattle.messages.specs.declared.Message.TheVariants.{Probe, Response}
 use Rattle.mechanism.specs.Views.{View}
 use Rattle.mechanism.specs.Combining.{Said, said, asked, heard, step_if, sofar, ask}
-use Rattle.trace.specs.inner.Traces.{Trace, pushed, pushed_all}
+use Rattle.trace.specs.declared.Trace.{Trace}
+use Rattle.trace.specs.inner.Traces.{pushed, pushed_all}
 use Rattle.walk.specs.inner.Links.{Found, neighbour_at, Placed}
 use Rattle.walk.specs.inner.Asking.{Asking, Visiting, Replied, Visited}
 use Rattle.walk.proofs.Finding.{found_same}

@@ -1,30 +1,42 @@
 -- `run` meets its contract: a list that is not refused as a whole is run, request by request.
-use mathlib.Core.Path.{◌≡◌, sym, ◌∙◌}
+use mathlib.Core.Path.{◌≡◌, refl, sym, ◌∙◌}
 use mathlib.Core.Bool.{true}
 use lib.ListN.{length}
 use Prim.Native.Nat.{◌≤◌}
 use native.Mathlib.Omega.{arith}
 use borrow.Author.Rules.{rules}
+use Rattle.std.proofs.lemmas.Result.{err_from_is_err_and}
+use Rattle.refusal.proofs.Numbers.{numbers_within}
+use Rattle.aggregate.specs.inner.Turns.{Starting}
 use Rattle.aggregate.proofs.Wholly.{ends_unread, ends_few_places, ends_unsound, starting}
 use Rattle.aggregate.proofs.run.Goals as goal
+use Rattle.aggregate.proofs.run.Goals.{After-is_sound}
 
-pub returns-then-judged-ne0 : goal.returns-then-judged-ne0
-returns-then-judged-ne0 c =
-    let e = ends_unread c.args.session c.args.list.now c.args.answers.now c.args.log.now c.args.place c.judge-judged.result c.judge-judged.ensures c.if-judged-ne0.true in
-    (c.refused.ensures ∙ e.0, e.1, e.2)
+-- past the tests
+begins : (p : After-is_sound) → p.is_sound.result ≡ true
+    → Starting p.args.session p.args.list.now (length p.args.answers.now) p.in_ok-judged.judged.requests p.in_ok-judged.judged.first
+begins p tested =
+    let enough : p.in_ok-judged.judged.combines ≤ length p.args.answers.now = omega arith in
+    starting p.args.session p.args.list.now p.args.answers.now p.args.log.now p.args.place _ p.in_ok-judged.ensures refl enough (sym p.is_sound.ensures ∙ tested)
+
+pub returns-in_err-judged : goal.returns-in_err-judged
+returns-in_err-judged c =
+    let p = err_from_is_err_and c.from_residual.result c.from_residual.ensures.1 in
+    let r = c.in_err-judged.field-0.0 in
+    rw (p.1, p.2) (ends_unread c.args.session c.args.list.now c.args.answers.now c.args.log.now c.args.place _ c.in_err-judged.ensures (λ z. omega (arith, z, (numbers_within r).0)))
 
 pub returns-then-answers-judged : goal.returns-then-answers-judged
 returns-then-answers-judged c =
-    let e = ends_few_places c.args.session c.args.list.now c.args.answers.now c.args.log.now c.args.place c.judge-judged.result c.judge-judged.ensures c.if-judged-ne0.false c.if-answers-judged.true in
-    (c.refused-then-answers-judged.ensures ∙ e.0, e.1, e.2)
+    ends_few_places c.args.session c.args.list.now c.args.answers.now c.args.log.now c.args.place _ c.in_ok-judged.ensures refl c.if-answers-judged.true
 
-pub returns-then-not-sound : goal.returns-then-not-sound
-returns-then-not-sound c =
-    let e = ends_unsound c.args.session c.args.list.now c.args.answers.now c.args.log.now c.args.place c.judge-judged.result c.judge-judged.ensures c.if-judged-ne0.false c.if-answers-judged.false (sym c.is_sound-sound.ensures ∙ c.if-not-sound.true) in
-    (c.refused-then-not-sound.ensures ∙ e.0, e.1, e.2)
+pub returns-then-not-is_sound : goal.returns-then-not-is_sound
+returns-then-not-is_sound c =
+    ends_unsound c.args.session c.args.list.now c.args.answers.now c.args.log.now c.args.place _ c.in_ok-judged.ensures refl c.if-answers-judged.false (sym c.is_sound.ensures ∙ c.if-not-is_sound.true)
 
 pub whole-requires : goal.whole-requires
-whole-requires c =
-    let enough : c.judge-judged.result.combines ≤ length c.args.answers.now = omega arith in
-    let tested : c.is_sound-sound.result ≡ true = search rules in
-    starting c.args.session c.args.list.now c.args.answers.now c.args.log.now c.args.place c.judge-judged.result c.judge-judged.ensures (omega arith) enough (sym c.is_sound-sound.ensures ∙ tested)
+whole-requires c = begins (goal.at.whole-requires c).After-is_sound (search rules)
+
+pub returns : goal.returns
+returns c =
+    let b = begins (goal.at.returns c).After-is_sound (search rules) in
+    (c.whole.ensures.0, c.whole.ensures.1, c.whole.ensures.2, sym b.accepted)

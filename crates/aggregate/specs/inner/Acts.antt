@@ -1,5 +1,5 @@
 -- A request as an act at a node, served in place: what the functions that do so ask for, and what they leave.
-use Rattle.std.specs.Prelude.{◌≡◌, cond, List, ℕ, ◌<◌, ltb, ℤ, pos, length, set}
+use Rattle.std.specs.Prelude.{◌≡◌, cond, List, ℕ, ◌+◌, ◌<◌, ltb, ℤ, pos, length, set}
 use Rattle.tree.specs.Operation.{sum}
 use Rattle.requests.specs.declared.Request.{Request}
 use Rattle.requests.specs.declared.Request.TheVariants as request
@@ -9,13 +9,15 @@ use Rattle.session.specs.declared.Session.{Session}
 use Rattle.mechanism.specs.Views.{View}
 use Rattle.mechanism.specs.Combining.{Said, said, combine}
 use Rattle.mechanism.specs.Spreading.{write}
-use Rattle.mechanism.specs.Applying.{up_raised, down_raised}
-use Rattle.trace.specs.inner.Traces.{Trace, pushed_all}
+use Rattle.mechanism.specs.Applying.{raised}
+use Rattle.mechanism.specs.Requests.{links_of}
+use Rattle.trace.specs.declared.Trace.{Trace}
+use Rattle.trace.specs.inner.Traces.{pushed_all}
 use Rattle.walk.specs.inner.Asking.{SumsFit}
 use Rattle.walk.specs.inner.Links.{Linked}
 use Rattle.walk.specs.inner.Telling.{Steady}
-use Rattle.aggregate.specs.declared.Outcome.{Outcome}
-use Rattle.aggregate.specs.declared.Served.{Served}
+use Rattle.aggregate.specs.inner.Afters.{paired}
+use Rattle.aggregate.specs.Told.{Outcome, Served}
 use Rattle.aggregate.specs.declared.act.Act.{Act}
 use Rattle.aggregate.specs.declared.act.Act.TheVariants.{Combine, Write}
 
@@ -45,6 +47,9 @@ abbrev pub begun : Act → ℕ → List ℤ → List ℤ
 begun Combine x vs = vs
 begun (Write z) x vs = set vs x z
 
+abbrev pub begun_of : Session → ℕ → Act → Session
+begun_of s x a = record { tree = s.tree; values = begun a x s.values; up = s.up; down = s.down; accepted = s.accepted }
+
 -- the sum and the messages of the walk of an act
 abbrev pub walked : Act → View → ℕ → Said
 walked Combine q x = combine sum q x
@@ -63,11 +68,11 @@ pub record Walked (a : Act) (q : View) (x : ℕ) (z : ℤ) (t t' : Trace) : Type
   pub sums : z ≡ (walked a q x).sum
   pub logs : t' ≡ pushed_all (walked a q x).log t
 
--- the lease numbers after an act, of each direction: a combine raises those of every pair that points to x
-abbrev pub up_settled : Act → List ℕ → ℕ → ℕ → List ℕ → List ℕ
-up_settled Combine ps n x l = up_raised ps n 2 x l
-up_settled (Write z) ps n x l = l
+-- the session after an act: a combine raises the lease number of every pair that points to x
+abbrev pub settled_of : Session → ℕ → Act → Session
+settled_of s x Combine = paired s (raised s.tree.parents s.tree.count 2 x (links_of s))
+settled_of s x (Write z) = s
 
-abbrev pub down_settled : Act → List ℕ → ℕ → ℕ → List ℕ → List ℕ
-down_settled Combine ps n x l = down_raised ps n 2 x l
-down_settled (Write z) ps n x l = l
+-- the session with one more request accepted
+abbrev pub counted : Session → Session
+counted s = record { tree = s.tree; values = s.values; up = s.up; down = s.down; accepted = s.accepted + 1 }

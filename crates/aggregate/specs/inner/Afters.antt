@@ -1,15 +1,12 @@
 -- What the functions that make the session after a request ask for, and what they leave.
-use Rattle.std.specs.Prelude.{◌≡◌, List, ℕ, ◌<◌, ◌≤◌, ℤ, get_or, length}
+use Rattle.std.specs.Prelude.{◌≡◌, List, ℕ, ◌<◌, ◌≤◌, get_or, length}
 use Rattle.tree.specs.Parents.{Grown}
-use Rattle.session.specs.declared.Pairs.{Pairs}
+use Rattle.session.specs.declared.Session.{Session}
 use Rattle.mechanism.specs.Applying.{Links}
 
--- the pairs of a direction, and of both, by their arrays
-abbrev pub pairs_of : List ℕ → List ℤ → List ℕ → Pairs
-pairs_of leases caches counts = record { lease = leases; cache = caches; messages = counts }
-
-abbrev pub links_by : List ℕ → List ℤ → List ℕ → List ℕ → List ℤ → List ℕ → Links
-links_by ul uc um dl dc dm = record { up = pairs_of ul uc um; down = pairs_of dl dc dm }
+-- the session with these pairs
+abbrev pub paired : Session → Links → Session
+paired s l = record { tree = s.tree; values = s.values; up = l.up; down = l.down; accepted = s.accepted }
 
 -- no count of messages is above m
 pub record Counts (m : ℕ) (l : Links) : Type 0 where

@@ -1,11 +1,11 @@
 -- What the functions that take a list's requests in turn ask for.
-use Rattle.std.specs.Prelude.{◌≡◌, List, ℕ, ◌*◌, ◌<◌, ◌≤◌, ℤ}
+use Rattle.std.specs.Prelude.{◌≡◌, List, ℕ, ◌*◌, ◌<◌, ◌≤◌}
 use Rattle.requests.specs.Reading.{judged_of}
 use Rattle.requests.specs.declared.Request.{Request}
 use Rattle.requests.specs.declared.Request.TheVariants.{Combine, Write}
 use Rattle.session.specs.declared.Session.{Session}
-use Rattle.aggregate.specs.Running.{list_refusal, Ended, running}
-use Rattle.aggregate.specs.declared.Outcome.{Outcome}
+use Rattle.aggregate.specs.Running.{list_refusal}
+use Rattle.aggregate.specs.Told.{Outcome}
 use Rattle.aggregate.specs.declared.Totals.{Totals}
 
 -- a list that is not refused as a whole, with its count and the place of its first request
@@ -26,7 +26,3 @@ pub record Addable (t : Totals) (k : ℕ) (o : Outcome) : Type 0 where
   pub one : k ≤ 1
   pub messages_few : t.messages ≤ 510 * t.requests
   pub at_most_510 : o.messages ≤ 510
-
--- a refusal, 0 for none, and how far the requests came
-abbrev pub ended_by : ℕ → Totals → Session → List ℤ → List ℕ → Ended
-ended_by n t s answers log = record { refusal = n; reached = running t s answers log }

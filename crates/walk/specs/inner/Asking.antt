@@ -6,7 +6,8 @@ use Rattle.tree.specs.Operation.{sum}
 use Rattle.tree.specs.Sides.{adjacent, other}
 use Rattle.mechanism.specs.Views.{View}
 use Rattle.mechanism.specs.Combining.{said, step_if, sofar, ask}
-use Rattle.trace.specs.inner.Traces.{Trace, pushed_all}
+use Rattle.trace.specs.declared.Trace.{Trace}
+use Rattle.trace.specs.inner.Traces.{pushed_all}
 use Rattle.walk.specs.inner.Links.{Linked}
 
 -- every partial sum of a walk fits 64 bits

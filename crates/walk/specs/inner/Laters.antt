@@ -1,5 +1,5 @@
 -- What comes after each neighbour of a node in turn, the one towards x left out.
-use Rattle.std.specs.Prelude.{◌≡◌, Bool, true, not, cond, ◌&&◌, List, ℕ, zero, suc, ◌-◌, ◌<◌, ◌≤◌, eqb, ℤ, pos, get_or, length}
+use Rattle.std.specs.Prelude.{◌≡◌, Bool, true, not, cond, ◌&&◌, List, ℕ, zero, suc, ◌-◌, ◌<◌, ◌≤◌, eqb, ℤ, pos}
 use Rattle.std.specs.Int.{w64}
 use Rattle.std.proofs.Common.{SFits}
 use Rattle.tree.specs.Operation.{sum}
@@ -33,11 +33,6 @@ pub record Passing (q : View) (x : ℕ) : Type 0 where
   pub inside : x < q.count
   pub grown : Grown q.parents q.count
   pub fits : (u m : ℕ) → u < q.count → m ≤ q.count → SFits w64 (later q x u m)
-
--- room for 256 nodes, with zeros for n of them
-pub record Cleared (n : ℕ) (l : List ℤ) : Type 0 where
-  pub long : length l ≡ 256
-  pub zeros : (u : ℕ) → u < n → get_or l u (pos 0) ≡ pos 0
 
 -- for u and its neighbour at place k stands what u knows of its neighbours after that one
 pub record Passed (q : View) (x : ℕ) (up down : List ℤ) : Type 0 where

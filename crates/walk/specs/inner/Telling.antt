@@ -9,7 +9,8 @@ use Rattle.tree.specs.Turns.{turn}
 use Rattle.session.specs.Soundness.{Ordered}
 use Rattle.mechanism.specs.Views.{View}
 use Rattle.mechanism.specs.Spreading.{add_if, sends, spread}
-use Rattle.trace.specs.inner.Traces.{Trace, pushed_all}
+use Rattle.trace.specs.declared.Trace.{Trace}
+use Rattle.trace.specs.inner.Traces.{pushed_all}
 use Rattle.walk.specs.inner.Links.{Linked, neighbour_at}
 use Rattle.walk.specs.inner.Laters.{known, Passed}
 

@@ -1,36 +1,33 @@
 -- `apply::apply` meets its contract: the messages so far are applied, and no count is near its limit.
-use mathlib.Core.Path.{◌≡◌}
-use Prim.Native.Nat.{min}
+use mathlib.Core.Path.{ap, ◌∙◌}
 use native.Mathlib.Omega.{arith}
+use Rattle.trace.proofs.Traced.{used_all}
 use Rattle.aggregate.proofs.Hitting.{done_none, done_more, step_up, step_down}
+use Rattle.mechanism.specs.Requests.{links_of}
+use Rattle.aggregate.specs.inner.Afters.{paired}
 use Rattle.aggregate.proofs.apply.apply.Goals as goal
+use Rattle.aggregate.proofs.apply.apply.Goals.{then-v-u, else-v-u}
 
-pub loop-k-init : goal.loop-k-init
-loop-k-init c = (omega arith, done_none _ _ c.requires.1)
+pub loop-number-init : goal.loop-number-init
+loop-number-init c = done_none _ _ c.requires
 
 pub hit-requires : goal.hit-requires
-hit-requires c =
-    let f = c in
-    (f.from-u.ensures.1, omega (arith, f.loop-k.invariant.1.few.up_few f.from-u.result))
-
-pub loop-k-preserved-then-v-u : goal.loop-k-preserved-then-v-u
-loop-k-preserved-then-v-u c =
-    let t = c in
-    let l = t in
-    (omega arith, done_more l.loop-k.invariant.1 _ t.decode-message.ensures _ (step_up _ _ _ _ _ t.from-u.ensures.0 t.to-v.ensures.0 c.if-v-u.true c.hit.ensures))
+hit-requires c = (c.ends-u.ensures.0.1, omega (arith, c.loop-number.invariant.few.up_few c.ends-u.result.0, c.used-used.ensures.1))
 
 pub hit-requires-else-v-u : goal.hit-requires-else-v-u
-hit-requires-else-v-u c =
-    let t = c in
-    (t.to-v.ensures.1, omega (arith, t.loop-k.invariant.1.few.down_few t.to-v.result))
+hit-requires-else-v-u c = (c.ends-u.ensures.1.1, omega (arith, c.loop-number.invariant.few.down_few c.ends-u.result.1, c.used-used.ensures.1))
 
-pub loop-k-preserved : goal.loop-k-preserved
-loop-k-preserved c =
-    let t = c in
-    let l = t in
-    (omega arith, done_more l.loop-k.invariant.1 _ t.decode-message.ensures _ (step_down _ _ _ _ _ t.from-u.ensures.0 t.to-v.ensures.0 c.if-v-u.false c.hit-else-v-u.ensures))
+pub loop-number-preserved : goal.loop-number-preserved
+loop-number-preserved c =
+    let t = c.loop-number.session in
+    let l = links_of t in
+    let d = done_more c.loop-number.invariant c.decode-message.result c.decode-message.ensures in
+    elim c.if-v-u.branch [
+      | then-v-u w ↦ d _ (w.session-is ∙ ap (paired t) (step_up l _ _ _ _ c.ends-u.ensures.0.0 c.ends-u.ensures.1.0 w.if-v-u.true w.hit.ensures))
+      | else-v-u w ↦ d _ (w.session-is ∙ ap (paired t) (step_down l _ _ _ _ c.ends-u.ensures.0.0 c.ends-u.ensures.1.0 w.if-v-u.false w.hit-else-v-u.ensures))
+    ]
 
 pub returns : goal.returns
 returns c =
-    let e : c.loop-k.k ≡ min c.args.len 510 = omega arith in
-    rw e at c.loop-k.invariant.1.is
+    let t = c.args.trace.now in
+    rw (used_all t.numbers c.used-used.result.now t.len c.loop-number.number-index c.used-used.ensures.0 (omega (arith, c.used-used.ensures.1))) at c.loop-number.invariant.is

@@ -3,7 +3,4 @@ use Rattle.aggregate.proofs.Raising.{Climbed}
 use Rattle.aggregate.proofs.raise.raise.Given as goal
 
 abbrev pub invariant-loop-i : goal.invariant-loop-i
-invariant-loop-i l = Climbed l.parents l.count l.x l.initial.up l.initial.down l.up l.down l.at l.i
-
-abbrev pub decreases-loop-i : goal.decreases-loop-i
-decreases-loop-i l = l.i
+invariant-loop-i l = Climbed l.initial.session l.x l.session l.at l.i

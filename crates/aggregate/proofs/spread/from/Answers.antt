@@ -1,23 +1,15 @@
 -- `spread::from` meets its contract: a silent write says nothing, and else what comes after each neighbour is laid by, and the walk is that of the definition.
-use Rattle.mechanism.specs.Views.{View, view_of}
+use Rattle.mechanism.specs.Views.{view}
 use Rattle.walk.proofs.Pushing.{pushed_all-none}
 use Rattle.walk.proofs.Silence.{silent_write}
 use Rattle.walk.proofs.Starting.{passing, spreading_first}
 use Rattle.aggregate.proofs.spread.from.Goals as goal
-use Rattle.aggregate.proofs.spread.from.Goals.{Start}
-
-abbrev seen : Start → View
-seen s = let a = s.args in view_of a.count a.parents.now a.values.now a.up_lease.now a.up_cache.now a.down_lease.now a.down_cache.now
 
 pub returns-then-is_silent : goal.returns-then-is_silent
-returns-then-is_silent c =
-    rw (silent_write (seen (goal.at.returns-then-is_silent c).Start) c.args.x c.requires.inside (c.is_silent.ensures c.if-is_silent.true), pushed_all-none)
+returns-then-is_silent c = rw (silent_write (view c.args.session.now) c.args.x c.requires.inside (c.is_silent.ensures c.if-is_silent.true), pushed_all-none)
 
-pub of-requires : goal.of-requires
-of-requires c = passing c.requires.steady c.requires.inside
+pub of-later-requires : goal.of-later-requires
+of-later-requires c = passing c.requires.steady c.requires.inside
 
 pub spread-requires : goal.spread-requires
-spread-requires c = spreading_first c.requires.steady c.requires.inside c.requires.linked c.of.ensures
-
-pub returns : goal.returns
-returns c = c.spread.ensures.logs
+spread-requires c = spreading_first c.requires.steady c.requires.inside c.requires.linked c.of-later.ensures

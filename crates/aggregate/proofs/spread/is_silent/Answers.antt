@@ -1,24 +1,33 @@
 -- `spread::is_silent` meets its contract: no neighbour so far holds a lease.
 use mathlib.Core.Path.{◌≡◌, sym, ◌∙◌}
+use Prim.Native.Nat.{◌<◌}
 use native.Mathlib.Omega.{arith}
+use Rattle.tree.specs.Turns.{turn}
 use Rattle.tree.proofs.Turns.{turn_inside}
 use Rattle.walk.proofs.Silence.{hushed_first, hushed_next, hushed_place, hushed_all}
 use Rattle.aggregate.proofs.spread.is_silent.Goals as goal
+use Rattle.aggregate.proofs.spread.is_silent.Goals.{After-turn-w}
+
+-- the candidate is that at the place
+turned : (c : After-turn-w) → c.turn-w.result ≡ turn c.args.session.now.tree.count c.args.x c.loop-k.k
+turned c = rw c.from-count.ensures at c.turn-w.ensures
 
 pub loop-k-init : goal.loop-k-init
 loop-k-init c = hushed_first c.first-k.ensures
 
 pub lease-requires : goal.lease-requires
 lease-requires c =
-    (omega (arith, c.requires), omega (arith, c.requires.1.0, c.turn-w.ensures, turn_inside c.args.count c.args.x c.requires.0 c.loop-k.k (omega arith)))
+    let n = c.args.session.now.tree.count in
+    let l : c.loop-k.k < n = omega (arith, c.from-count.ensures) in
+    (omega (arith, c.requires), omega (arith, c.requires.1.0, turned (goal.at.lease-requires c).After-turn-w, turn_inside n c.args.x c.requires.0 c.loop-k.k l))
 
 pub next-k-requires : goal.next-k-requires
-next-k-requires c = hushed_place c.requires.1.0 c.requires.0 c.requires.1.1 (omega arith) c.loop-k.invariant
+next-k-requires c = hushed_place c.requires.1.0 c.requires.0 c.requires.1.1 (omega (arith, c.from-count.ensures)) c.loop-k.invariant
 
 pub loop-k-preserved : goal.loop-k-preserved
 loop-k-preserved c =
     let none : c.lease.result ≡ 0 = omega arith in
-    hushed_next c.loop-k.invariant c.turn-w.ensures (sym c.lease.ensures ∙ none) c.next-k.ensures
+    hushed_next c.loop-k.invariant (turned (goal.at.loop-k-preserved c).After-turn-w) (sym c.lease.ensures ∙ none) c.next-k.ensures
 
 pub returns : goal.returns
-returns c = λ e. hushed_all (omega arith) c.loop-k.invariant
+returns c = λ e. hushed_all (omega (arith, c.from-count.ensures)) c.loop-k.invariant
