@@ -4,4 +4,4 @@ use Rattle.rww.proofs.Few.{few}
 use Rattle.rww.proofs.serve.list.Goals as goal
 
 pub loop-index-init : goal.loop-index-init
-loop-index-init g c = (rw c.judge-judged.ensures (few _), omega arith)
+loop-index-init g c = (few _ _ c.in-Ok.ensures, omega arith)
