@@ -1,5 +1,7 @@
 -- `apply::apply` meets its contract: the messages so far are applied, and no count is near its limit.
-use mathlib.Core.Path.{ap, ◌∙◌}
+use mathlib.Core.Path.{◌≡◌, ap, ◌∙◌}
+use Rattle.std.specs.Prelude.{min, take}
+use Rattle.std.proofs.lemmas.Grind.{common_steps}
 use native.Mathlib.Omega.{arith}
 use Rattle.trace.proofs.Traced.{used_all}
 use Rattle.aggregate.proofs.Hitting.{done_none, done_more, step_up, step_down}
@@ -12,10 +14,10 @@ pub loop-number-init : goal.loop-number-init
 loop-number-init c = done_none _ _ c.requires
 
 pub hit-requires : goal.hit-requires
-hit-requires c = (c.ends-u.ensures.0.1, omega (arith, c.loop-number.invariant.few.up_few c.ends-u.result.0, c.used-used.ensures.1))
+hit-requires c = (c.ends-u.ensures.0.1, omega (arith, c.loop-number.invariant.few.up_few c.ends-u.result.0, c.min.ensures))
 
 pub hit-requires-else-v-u : goal.hit-requires-else-v-u
-hit-requires-else-v-u c = (c.ends-u.ensures.1.1, omega (arith, c.loop-number.invariant.few.down_few c.ends-u.result.1, c.used-used.ensures.1))
+hit-requires-else-v-u c = (c.ends-u.ensures.1.1, omega (arith, c.loop-number.invariant.few.down_few c.ends-u.result.1, c.min.ensures))
 
 pub loop-number-preserved : goal.loop-number-preserved
 loop-number-preserved c =
@@ -30,4 +32,5 @@ loop-number-preserved c =
 pub returns : goal.returns
 returns c =
     let t = c.args.trace.now in
-    rw (used_all t.numbers c.used-used.result.now t.len c.loop-number.number-index c.used-used.ensures.0 (omega (arith, c.used-used.ensures.1))) at c.loop-number.invariant.is
+    let k : c.loop-number.number-index ≡ min t.len 510 = grind (arith, common_steps) in
+    rw (used_all t.numbers (take c.min.result t.numbers) t.len c.loop-number.number-index (ap (λ n. take n t.numbers) c.min.ensures) k) at c.loop-number.invariant.is
