@@ -13,7 +13,7 @@ use trace::Trace;
 
 // A request to any session. Refusals: 6 the session is unsound, and those of a request to a sound one.
 pub fn whole(
-    session: Session,
+    mut session: Session,
     x: usize,
     act: Act,
     log: &mut [u8],
@@ -24,7 +24,6 @@ pub fn whole(
     if !session.is_sound() {
         return Err(Refusal::Unsound);
     }
-    let mut session = session;
     let links = Links::of(&session.tree);
     let mut trace = Trace::new();
     let outcome = request(&mut session, &links, &mut trace, x, act, log, place)?;

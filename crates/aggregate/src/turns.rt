@@ -14,7 +14,7 @@ use trace::Trace;
 // The requests of an accepted list to a sound session, up to the first that is refused. The session's
 // tree is linked once, and one trace serves all requests.
 pub fn whole(
-    session: Session,
+    mut session: Session,
     list: &[u8],
     judged: Judged,
     answers: &mut [i64],
@@ -26,7 +26,6 @@ pub fn whole(
         × (answers.new ≡ spec.answers_of session list.now answers.old log.old place)
         × (log.new ≡ spec.run_log_of session list.now answers.old log.old place) }
 {
-    let mut session = session;
     let links = Links::of(&session.tree);
     let mut trace = Trace::new();
     let mut at = judged.first;

@@ -11,7 +11,8 @@ ghost use Rattle.trace.specs.inner.Traces as spec;
 use messages::Message;
 use refusal::Refusal;
 
-// Room for the numbers of 510 messages, and how many of them count.
+// Room for the numbers of 510 messages, and how many of them count. No list of a type of its own: there
+// is no heap, and any array and any length may be handed in.
 #[derive(Clone, Copy)]
 pub struct Trace {
     pub numbers: [u64; 510],

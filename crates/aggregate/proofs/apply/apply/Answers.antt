@@ -13,12 +13,6 @@ use Rattle.aggregate.proofs.apply.apply.Goals.{then-v-u, else-v-u}
 pub loop-number-init : goal.loop-number-init
 loop-number-init c = done_none _ _ c.requires
 
-pub hit-requires : goal.hit-requires
-hit-requires c = (c.ends-u.ensures.0.1, omega (arith, c.loop-number.invariant.few.up_few c.ends-u.result.0, c.min.ensures))
-
-pub hit-requires-else-v-u : goal.hit-requires-else-v-u
-hit-requires-else-v-u c = (c.ends-u.ensures.1.1, omega (arith, c.loop-number.invariant.few.down_few c.ends-u.result.1, c.min.ensures))
-
 pub loop-number-preserved : goal.loop-number-preserved
 loop-number-preserved c =
     let t = c.loop-number.session in

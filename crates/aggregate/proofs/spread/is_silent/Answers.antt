@@ -12,22 +12,8 @@ use Rattle.aggregate.proofs.spread.is_silent.Goals.{After-turn-w}
 turned : (c : After-turn-w) → c.turn-w.result ≡ turn c.args.session.now.tree.count c.args.x c.loop-k.k
 turned c = rw c.from-count.ensures at c.turn-w.ensures
 
-pub loop-k-init : goal.loop-k-init
-loop-k-init c = hushed_first c.first-k.ensures
-
 pub lease-requires : goal.lease-requires
 lease-requires c =
     let n = c.args.session.now.tree.count in
     let l : c.loop-k.k < n = omega (arith, c.from-count.ensures) in
     (omega (arith, c.requires), omega (arith, c.requires.1.0, turned (goal.at.lease-requires c).After-turn-w, turn_inside n c.args.x c.requires.0 c.loop-k.k l))
-
-pub next-k-requires : goal.next-k-requires
-next-k-requires c = hushed_place c.requires.1.0 c.requires.0 c.requires.1.1 (omega (arith, c.from-count.ensures)) c.loop-k.invariant
-
-pub loop-k-preserved : goal.loop-k-preserved
-loop-k-preserved c =
-    let none : c.lease.result ≡ 0 = omega arith in
-    hushed_next c.loop-k.invariant (turned (goal.at.loop-k-preserved c).After-turn-w) (sym c.lease.ensures ∙ none) c.next-k.ensures
-
-pub returns : goal.returns
-returns c = λ e. hushed_all (omega (arith, c.from-count.ensures)) c.loop-k.invariant

@@ -52,11 +52,6 @@ returns-in_default c =
     let l : c.loop-index.totals.requests < c.args.judged.requests = omega (arith, c.loop-index.invariant.0) in
     absurd (never_short c.loop-index.invariant.1 l _ (sym c.request_at.ensures ∙ c.in_default.is))
 
-pub request-served-requires : goal.request-served-requires
-request-served-requires c =
-    let u = c.loop-index.invariant.1 in
-    record { typed = u.typed; holds = u.holds; linked = rw u.rooted c.of-links.ensures }
-
 pub store-stored-requires : goal.store-stored-requires
 store-stored-requires c = let a = (goal.at.store-stored-requires c).After-request-served in placed_now c.loop-index.invariant.1 (more a) (found a)
 
