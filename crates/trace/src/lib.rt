@@ -44,7 +44,7 @@ impl Trace {
     }
 
     // The numbers that count.
-    pub fn used(&self) -> &[u64]
+    fn used(&self) -> &[u64]
         ensures { (result.now ≡ take (min self.now.len 510) self.now.numbers) × (length result.now ≡ min self.now.len 510) }
     {
         &self.numbers[..self.len.min(510)]

@@ -1,5 +1,7 @@
 -- `apply::apply` meets its contract: the messages so far are applied, and no count is near its limit.
-use mathlib.Core.Path.{ap, ◌∙◌}
+use mathlib.Core.Path.{◌≡◌, ap, ◌∙◌}
+use Rattle.std.specs.Prelude.{min, take}
+use Rattle.std.proofs.lemmas.Grind.{common_steps}
 use native.Mathlib.Omega.{arith}
 use Rattle.trace.proofs.Traced.{used_all}
 use Rattle.aggregate.proofs.Hitting.{done_none, done_more, step_up, step_down}
@@ -24,4 +26,5 @@ loop-number-preserved c =
 pub returns : goal.returns
 returns c =
     let t = c.args.trace.now in
-    rw (used_all t.numbers c.used-used.result.now t.len c.loop-number.number-index c.used-used.ensures.0 (omega (arith, c.used-used.ensures.1))) at c.loop-number.invariant.is
+    let k : c.loop-number.number-index ≡ min t.len 510 = grind (arith, common_steps) in
+    rw (used_all t.numbers (take c.min.result t.numbers) t.len c.loop-number.number-index (ap (λ n. take n t.numbers) c.min.ensures) k) at c.loop-number.invariant.is
