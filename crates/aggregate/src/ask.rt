@@ -28,7 +28,6 @@ pub fn ask(
     }
     let count = usize::from(session.tree.count);
     let mut k = links.first(&session.tree, u);
-    // The links lead from place to place: no index is counted.
     while k < count {
         let w = links::turn(count, u, k);
         sum = visit(session, links, trace, u, from, left - 1, w, sum);

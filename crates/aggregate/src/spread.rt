@@ -36,7 +36,6 @@ fn is_silent(session: &Session, links: &Links, x: usize) -> bool
 {
     let count = usize::from(session.tree.count);
     let mut k = links.first(&session.tree, x);
-    // The links lead from place to place: no index is counted.
     while k < count {
         let w = links::turn(count, x, k);
         if reads::lease(session, x, w) != 0 {
@@ -68,7 +67,6 @@ fn spread(
     }
     let count = usize::from(session.tree.count);
     let mut k = links.first(&session.tree, u);
-    // The links lead from place to place: no index is counted.
     while k < count {
         let w = links::turn(count, u, k);
         sum = tell(
