@@ -1,10 +1,9 @@
 -- `spread::is_silent` meets its contract: no neighbour so far holds a lease.
-use mathlib.Core.Path.{◌≡◌, sym, ◌∙◌}
+use mathlib.Core.Path.{◌≡◌}
 use Prim.Native.Nat.{◌<◌}
 use native.Mathlib.Omega.{arith}
 use Rattle.tree.specs.Turns.{turn}
 use Rattle.tree.proofs.Turns.{turn_inside}
-use Rattle.walk.proofs.Silence.{hushed_first, hushed_next, hushed_place, hushed_all}
 use Rattle.aggregate.proofs.spread.is_silent.Goals as goal
 use Rattle.aggregate.proofs.spread.is_silent.Goals.{After-turn-w}
 
