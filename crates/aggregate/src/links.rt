@@ -1,8 +1,10 @@
 // Each node's neighbours, one after the other, without a look at any other node.
-ghost use Rattle.std.specs.Prelude.{◌≡◌, ◌+◌, ◌<◌, ◌≤◌};
+ghost use Rattle.std.specs.Prelude.{◌≡◌, ◌+◌, ◌-◌, ◌<◌, ◌≤◌};
 ghost use Rattle.tree.specs.Parents.{Grown};
 ghost use Rattle.tree.specs.Turns as turns;
+ghost use Rattle.std.specs.Iterator.{at_most};
 ghost use Rattle.walk.specs.inner.Links.{Found, Linked, neighbour_at, Placed};
+ghost use Rattle.aggregate.specs.inner.Rounds.{Round, May, Goes};
 
 use tree::Tree;
 
@@ -30,6 +32,22 @@ impl Links {
         Links { first, next }
     }
 
+    // The neighbours of u, in turn.
+    pub fn neighbours<'a>(&'a self, tree: &'a Tree, u: usize) -> Neighbours<'a>
+        requires { (u < tree.now.count) × ((tree.now.count ≤ 256) × Linked tree.now.count tree.now.parents self.now.first self.now.next) }
+        ensures round { Round self.now tree.now u result }
+        ensures first { Found tree.now.count (neighbour_at tree.now.count tree.now.parents u) 0 result.place }
+        ensures may { May result }
+    {
+        let place = self.first(tree, u);
+        Neighbours {
+            links: self,
+            tree,
+            node: u,
+            place,
+        }
+    }
+
     // The place of u's first neighbour among its candidates.
     pub fn first(&self, tree: &Tree, u: usize) -> usize
         requires { (u < tree.now.count) × ((tree.now.count ≤ 256) × Linked tree.now.count tree.now.parents self.now.first self.now.next) }
@@ -50,6 +68,35 @@ impl Links {
             return usize::from(self.first[u]);
         }
         usize::from(self.next[k])
+    }
+}
+
+// The neighbours of a node, from that at a place on.
+#[derive(Clone, Copy)]
+pub struct Neighbours<'a> {
+    pub links: &'a Links,
+    pub tree: &'a Tree,
+    pub node: usize,
+    pub place: usize,
+}
+
+impl Iterator for Neighbours<'_> {
+    type Item = usize;
+
+    ghost can_next = { May };
+
+    ghost next_gives = { Goes };
+
+    ghost remaining = { λ s. at_most (s.tree.now.count - s.place) };
+
+    fn next(&mut self) -> Option<usize> {
+        let count = usize::from(self.tree.count);
+        let place = self.place;
+        if count <= place {
+            return None;
+        }
+        self.place = self.links.next(self.tree, self.node, place);
+        Some(turn(count, self.node, place))
     }
 }
 

@@ -34,14 +34,10 @@ fn is_silent(session: &Session, links: &Links, x: usize) -> bool
     requires { (x < session.now.tree.count) × ((session.now.tree.count ≤ 256) × Linked session.now.tree.count session.now.tree.parents links.now.first links.now.next) }
     ensures { result ≡ true → SilentUpTo session.now.tree.count session.now.tree.parents (lease_of session.now) x session.now.tree.count }
 {
-    let count = usize::from(session.tree.count);
-    let mut k = links.first(&session.tree, x);
-    while k < count {
-        let w = links::turn(count, x, k);
+    for w in links.neighbours(&session.tree, x) {
         if reads::lease(session, x, w) != 0 {
             return false;
         }
-        k = links.next(&session.tree, x, k);
     }
     true
 }
