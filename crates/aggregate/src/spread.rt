@@ -11,7 +11,7 @@ ghost use Rattle.aggregate.specs.inner.Acts.{Walkable};
 
 use crate::later::Later;
 use crate::links::Links;
-use crate::{later, links, reads};
+use crate::{later, reads};
 use messages::Message;
 use session::Session;
 use trace::Trace;
@@ -61,10 +61,7 @@ fn spread(
     if left == 0 {
         return;
     }
-    let count = usize::from(session.tree.count);
-    let mut k = links.first(&session.tree, u);
-    while k < count {
-        let w = links::turn(count, u, k);
+    for w in links.neighbours(&session.tree, u) {
         sum = tell(
             session,
             links,
@@ -77,7 +74,6 @@ fn spread(
             w,
             sum,
         );
-        k = links.next(&session.tree, u, k);
     }
 }
 
