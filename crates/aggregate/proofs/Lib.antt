@@ -1,4 +1,5 @@
 -- The laws of the functions that serve a session, by what they say.
+pub mod Rounds
 pub mod Hitting
 pub mod Paid
 pub mod Raising

@@ -2,3 +2,4 @@
 pub mod Afters
 pub mod Acts
 pub mod Turns
+pub mod Rounds

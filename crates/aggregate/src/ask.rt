@@ -3,7 +3,7 @@ ghost use Rattle.mechanism.specs.Views.{view};
 ghost use Rattle.walk.specs.inner.Asking.{Asking, Visiting, Replied, Visited};
 
 use crate::links::Links;
-use crate::{links, reads};
+use crate::reads;
 use messages::Message;
 use session::Session;
 use trace::Trace;
@@ -26,12 +26,8 @@ pub fn ask(
     if left == 0 {
         return sum;
     }
-    let count = usize::from(session.tree.count);
-    let mut k = links.first(&session.tree, u);
-    while k < count {
-        let w = links::turn(count, u, k);
+    for w in links.neighbours(&session.tree, u) {
         sum = visit(session, links, trace, u, from, left - 1, w, sum);
-        k = links.next(&session.tree, u, k);
     }
     sum
 }

@@ -1,8 +1,10 @@
 // Each node's neighbours, one after the other, without a look at any other node.
-ghost use Rattle.std.specs.Prelude.{◌≡◌, ◌+◌, ◌<◌, ◌≤◌};
+ghost use Rattle.std.specs.Prelude.{◌≡◌, ◌+◌, ◌-◌, ◌<◌, ◌≤◌};
 ghost use Rattle.tree.specs.Parents.{Grown};
 ghost use Rattle.tree.specs.Turns as turns;
-ghost use Rattle.walk.specs.inner.Links.{Found, Linked, neighbour_at, Placed};
+ghost use Rattle.std.specs.Iterator.{at_most};
+ghost use Rattle.walk.specs.inner.Links.{Found, Going, Linked, neighbour_at};
+ghost use Rattle.aggregate.specs.inner.Rounds.{Round, May, Goes};
 
 use tree::Tree;
 
@@ -31,8 +33,23 @@ impl Links {
         Links { first, next }
     }
 
+    // The neighbours of u, in turn: its parent, then its children.
+    pub fn neighbours<'a>(&'a self, tree: &'a Tree, u: usize) -> Neighbours<'a>
+        requires { (u < tree.now.count) × ((tree.now.count ≤ 256) × Linked tree.now.count tree.now.parents self.now.first self.now.next) }
+        ensures round { Round self.now tree.now u result }
+        ensures first { Found tree.now.count (neighbour_at tree.now.count tree.now.parents u) 0 result.place }
+        ensures may { May result }
+    {
+        Neighbours {
+            links: self,
+            tree,
+            node: u,
+            place: self.first(tree, u),
+        }
+    }
+
     // The place of u's first neighbour among its candidates.
-    pub fn first(&self, tree: &Tree, u: usize) -> usize
+    fn first(&self, tree: &Tree, u: usize) -> usize
         requires { (u < tree.now.count) × ((tree.now.count ≤ 256) × Linked tree.now.count tree.now.parents self.now.first self.now.next) }
         ensures { Found tree.now.count (neighbour_at tree.now.count tree.now.parents u) 0 result }
     {
@@ -43,8 +60,8 @@ impl Links {
     }
 
     // The place of u's next neighbour, after the one at place k.
-    pub fn next(&self, tree: &Tree, u: usize, k: usize) -> usize
-        requires { Placed tree.now.count tree.now.parents self.now.first self.now.next u k }
+    fn next(&self, tree: &Tree, u: usize, k: usize) -> usize
+        requires { (k < tree.now.count) × Going tree.now.count tree.now.parents self.now.first self.now.next u k }
         ensures { Found tree.now.count (neighbour_at tree.now.count tree.now.parents u) (k + 1) result }
     {
         if k < u {
@@ -54,9 +71,38 @@ impl Links {
     }
 }
 
+// The neighbours of a node, from the one at a place among its candidates on.
+#[derive(Clone, Copy)]
+pub struct Neighbours<'a> {
+    links: &'a Links,
+    tree: &'a Tree,
+    node: usize,
+    place: usize,
+}
+
+impl Iterator for Neighbours<'_> {
+    type Item = usize;
+
+    ghost can_next = { May };
+
+    ghost next_gives = { Goes };
+
+    ghost remaining = { λ s. at_most (s.tree.now.count - s.place) };
+
+    fn next(&mut self) -> Option<usize> {
+        let count = usize::from(self.tree.count);
+        let place = self.place;
+        if count <= place {
+            return None;
+        }
+        self.place = self.links.next(self.tree, self.node, place);
+        Some(turn(count, self.node, place))
+    }
+}
+
 // The candidate at place k.
 #[tactic(auto, unfolding(tree::specs::Turns::turn))]
-pub fn turn(count: usize, u: usize, k: usize) -> usize
+fn turn(count: usize, u: usize, k: usize) -> usize
     ensures { result ≡ turns.turn count u k }
 {
     k

@@ -11,7 +11,7 @@ ghost use Rattle.aggregate.specs.inner.Acts.{Walkable};
 
 use crate::later::Later;
 use crate::links::Links;
-use crate::{later, links, reads};
+use crate::{later, reads};
 use messages::Message;
 use session::Session;
 use trace::Trace;
@@ -34,14 +34,10 @@ fn is_silent(session: &Session, links: &Links, x: usize) -> bool
     requires { (x < session.now.tree.count) × ((session.now.tree.count ≤ 256) × Linked session.now.tree.count session.now.tree.parents links.now.first links.now.next) }
     ensures { result ≡ true → SilentUpTo session.now.tree.count session.now.tree.parents (lease_of session.now) x session.now.tree.count }
 {
-    let count = usize::from(session.tree.count);
-    let mut k = links.first(&session.tree, x);
-    while k < count {
-        let w = links::turn(count, x, k);
+    for w in links.neighbours(&session.tree, x) {
         if reads::lease(session, x, w) != 0 {
             return false;
         }
-        k = links.next(&session.tree, x, k);
     }
     true
 }
@@ -65,10 +61,7 @@ fn spread(
     if left == 0 {
         return;
     }
-    let count = usize::from(session.tree.count);
-    let mut k = links.first(&session.tree, u);
-    while k < count {
-        let w = links::turn(count, u, k);
+    for w in links.neighbours(&session.tree, u) {
         sum = tell(
             session,
             links,
@@ -81,7 +74,6 @@ fn spread(
             w,
             sum,
         );
-        k = links.next(&session.tree, u, k);
     }
 }
 

@@ -147,13 +147,13 @@ fn number(refusal: Refusal) -> u32 {
     u32::from(u8::from(refusal))
 }
 
-// The last 32 bits of a number.
+// The last 32 bits of a number. `cases` has this and the next too, and no crate for two lines is
+// plainer.
 fn low(x: u64) -> u32 {
     (x % 4294967296) as u32
 }
 
-// A sum, modulo 2^32, that tells where each of its parts stood: a line that `cases` has too, and no
-// crate for it is plainer.
+// A sum, modulo 2^32, that tells where each of its parts stood.
 fn mixed(sum: u32, said: u32) -> u32 {
     sum.wrapping_mul(31).wrapping_add(said)
 }

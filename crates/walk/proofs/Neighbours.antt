@@ -13,9 +13,10 @@ use Rattle.tree.specs.Parents.{parent, child}
 use Rattle.tree.specs.Sides.{adjacent}
 use Rattle.tree.specs.Turns.{turn}
 use Rattle.tree.proofs.Cases.{order}
+use Rattle.tree.proofs.Turns.{turn_inside}
 use Rattle.tree.proofs.Toward.{adjacent_ne}
 use Rattle.tree.proofs.Children.{child_is}
-use Rattle.walk.specs.inner.Links.{Found, Linked, neighbour_at}
+use Rattle.walk.specs.inner.Links.{Found, Linked, neighbour_at, Turned}
 use Rattle.walk.proofs.Finding.{found_here, found_from}
 
 -- the candidate j is below u, is u, or is above it
@@ -59,3 +60,7 @@ module _ {n : ℕ} {ps first next : List ℕ} {u : ℕ} (inside : u < n) (links 
         let less : u < k = omega arith in
         let is : parent ps k ≡ u = eqb-true (parent ps k) u (rw (child_is ps u k less) at (rw (near_above ps u k less) at beside)) in
         found_from (le_refl (k + 1)) (λ j a b. absurd (omega arith)) (λ j a. near_above ps u j (omega arith)) (rw is at (links.nexts k (omega arith) place))
+
+-- the neighbour that a way round u comes to is a node of the tree
+pub beside_inside : {n : ℕ} {ps : List ℕ} {u k w r : ℕ} → u < n → Turned n ps u k w r → w < n
+beside_inside {n} {u = u} {k} i f = rw f.turned (turn_inside n u i k f.place)

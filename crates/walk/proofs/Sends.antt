@@ -25,7 +25,7 @@ use Rattle.mechanism.specs.Spreading.{add_if, carried, sends, spread}
 use Rattle.mechanism.proofs.Others.{size_most}
 use Rattle.trace.specs.declared.Trace.{Trace}
 use Rattle.trace.specs.inner.Traces.{pushed, pushed_all}
-use Rattle.walk.specs.inner.Links.{Found, neighbour_at, Placed}
+use Rattle.walk.specs.inner.Links.{Found, neighbour_at, Turned}
 use Rattle.walk.specs.inner.Laters.{known}
 use Rattle.walk.specs.inner.Telling.{before, Spreading, Telling, Spread, Told}
 use Rattle.walk.proofs.Finding.{found_same}
@@ -156,12 +156,6 @@ pub record Partly (q : View) (f u v : ℕ) (z : ℤ) (k : ℕ) (t : Trace) (y : 
   pub sums : y ≡ before q u v z k
   pub logs : t' ≡ pushed_all (sent q f u v z k) t
 
--- the same where k is the place of a neighbour, or the last candidate is taken
-pub record Standing (q : View) (f u v : ℕ) (z : ℤ) (k : ℕ) (t : Trace) (y : ℤ) (t' : Trace) : Type 0 where
-  pub upto : k ≤ q.count
-  pub beside : k < q.count → neighbour_at q.count q.parents u k ≡ true
-  pub partly : Partly q f u v z k t y t'
-
 module _ (q : View) (u v : ℕ) (z : ℤ) where
   before_next : (k : ℕ) → before q u v z (k + 1) ≡ add_if sum q (other q.parents u v (turn q.count u k)) (before q u v z k) (known q (turn q.count u k) u)
   unfolding before
@@ -191,43 +185,32 @@ module _ {q : View} {u v : ℕ} {z : ℤ} where
   start_fits s =
       range_wide q.count q.count (q.value u +ℤ z) s.steady.room (le_refl q.count) (before_in q s.steady s.x u v z s.told s.inside s.come 0 (omega arith))
 
-  module _ {f : ℕ} {t : Trace} {y : ℤ} where
-    pub partly_none : y ≡ q.value u +ℤ z → Partly q f u v z 0 t y t
-    unfolding before joined pushed_all
-    partly_none e = record { sums = e; logs = refl }
+  partly_far : {f k r : ℕ} {t t' : Trace} {y : ℤ} → Found q.count (neighbour_at q.count q.parents u) k r → Partly q f u v z k t y t' → Partly q f u v z r t y t'
+  partly_far {f} {t = t} h a =
+      record {
+        sums = a.sums ∙ sym (found_same (before q u v z) (before_far q u v z) h);
+        logs = a.logs ∙ ap (λ s. pushed_all s t) (sym (found_same (sent q f u v z) (sent_far q u v z f) h));
+      }
 
-    pub partly_next : {k w : ℕ} {y' : ℤ} {t₁ t₂ : Trace} → w ≡ turn q.count u k → Partly q f u v z k t y t₁ → Told q f u v z w y t₁ y' t₂ → Partly q f u v z (k + 1) t y' t₂
-    partly_next {k} e a b =
-        record {
-          sums = rw (before_next q u v z k, ← e, ← a.sums) b.sums;
-          logs = rw (sent_next q u v z f k, pushed_all-append, ← e, ← a.logs) b.logs;
-        }
+  pub partly_first : {f r : ℕ} {t : Trace} {y : ℤ} → Found q.count (neighbour_at q.count q.parents u) 0 r → y ≡ q.value u +ℤ z → Partly q f u v z r t y t
+  unfolding before joined pushed_all
+  partly_first h e = partly_far h (record { sums = e; logs = refl })
 
-    pub stand : {k r : ℕ} {t' : Trace} → Found q.count (neighbour_at q.count q.parents u) k r → Partly q f u v z k t y t' → Standing q f u v z r t y t'
-    stand h a =
-        record {
-          upto = h.upto;
-          beside = h.found;
-          partly =
-              record {
-                sums = a.sums ∙ sym (found_same (before q u v z) (before_far q u v z) h);
-                logs = a.logs ∙ ap (λ s. pushed_all s t) (sym (found_same (sent q f u v z) (sent_far q u v z f) h));
-              };
-        }
-
-    pub telling : {first next : List ℕ} {later_up later_down : List ℤ} {k w : ℕ} {t' : Trace}
-        → Spreading q first next later_up later_down u v z → k < q.count → w ≡ turn q.count u k → Standing q f u v z k t y t' → Telling q first next later_up later_down u v z w y
+  module _ {f : ℕ} {t : Trace} {k w r : ℕ} (g : Turned q.count q.parents u k w r) {y : ℤ} {t₁ : Trace} (a : Partly q f u v z k t y t₁) where
+    pub telling : {first next : List ℕ} {later_up later_down : List ℤ} → Spreading q first next later_up later_down u v z → Telling q first next later_up later_down u v z w y
     unfolding neighbour_at
-    telling {k = k} s h e a = record { spreading = s; place = k; inside = h; turned = sym e; beside = rw e (a.beside h); sums = a.partly.sums }
+    telling s = record { spreading = s; place = k; inside = g.place; turned = sym g.turned; beside = rw g.turned g.beside; sums = a.sums }
 
-    pub placed : {first next : List ℕ} {later_up later_down : List ℤ} {k : ℕ} {t' : Trace} {z' : ℤ}
-        → Spreading q first next later_up later_down u v z' → k < q.count → Standing q f u v z k t y t' → Placed q.count q.parents first next u k
-    placed s h a = record { room = s.steady.room; inside = s.inside; place = h; beside = a.beside h; linked = s.linked }
+    pub partly_next : {y' : ℤ} {t₂ : Trace} → Told q f u v z w y t₁ y' t₂ → Partly q f u v z r t y' t₂
+    partly_next b =
+        partly_far g.next
+        (record {
+          sums = rw (before_next q u v z k, ← g.turned, ← a.sums) b.sums;
+          logs = rw (sent_next q u v z f k, pushed_all-append, ← g.turned, ← a.logs) b.logs;
+        })
 
-    pub spread_all : {k : ℕ} {t' : Trace} → f ≢ 0 → q.count ≤ k → Standing q (f - 1) u v z k t y t' → Spread q f u v z t t'
-    spread_all {k} d l h =
-        let e : k ≡ q.count = omega (arith, h.upto) in
-        record { logs = rw (spread_some q u v z f d) (rw e at h.partly.logs) }
+  pub spread_all : {f k : ℕ} {t t' : Trace} {y : ℤ} → f ≢ 0 → k ≡ q.count → Partly q (f - 1) u v z k t y t' → Spread q f u v z t t'
+  spread_all {f} d e a = record { logs = rw (spread_some q u v z f d) (rw e at a.logs) }
 
   pub spread_none : {f : ℕ} {t : Trace} → f ≡ 0 → Spread q f u v z t t
   unfolding spread pushed_all

@@ -14,39 +14,26 @@ use Rattle.tree.proofs.Lists.{joined_none}
 use Rattle.messages.specs.declared.Message.{Message}
 use Rattle.mechanism.specs.Views.{View}
 use Rattle.mechanism.specs.Spreading.{sends, spread, write}
-use Rattle.walk.specs.inner.Links.{Found, Linked, neighbour_at, Placed}
+use Rattle.walk.specs.inner.Links.{Found, neighbour_at, Turned}
 use Rattle.walk.specs.inner.Telling.{SilentUpTo}
 
 -- ---- from neighbour to neighbour
 
--- the candidates before k are silent, and k is the place of a neighbour, or the last candidate is taken
-pub record Hushed (n : ℕ) (ps : List ℕ) (lease : ℕ → ℕ → ℕ) (x k : ℕ) : Type 0 where
-  pub upto : k ≤ n
-  pub beside : k < n → neighbour_at n ps x k ≡ true
-  pub silent : SilentUpTo n ps lease x k
-
 module _ {n : ℕ} {ps : List ℕ} {lease : ℕ → ℕ → ℕ} {x : ℕ} where
-  pub hushed_first : {r : ℕ} → Found n (neighbour_at n ps x) 0 r → Hushed n ps lease x r
-  hushed_first f = record { upto = f.upto; beside = f.found; silent = record { none = λ j l b. absurd (true≢false (sym b ∙ f.skipped j (omega arith) l)) } }
+  pub silent_first : {r : ℕ} → Found n (neighbour_at n ps x) 0 r → SilentUpTo n ps lease x r
+  silent_first f = record { none = λ j l b. absurd (true≢false (sym b ∙ f.skipped j (omega arith) l)) }
 
-  pub hushed_next : {k r w : ℕ} → Hushed n ps lease x k → w ≡ turn n x k → lease x w ≡ 0 → Found n (neighbour_at n ps x) (k + 1) r → Hushed n ps lease x r
-  hushed_next {k} h e z f =
+  pub silent_next : {k r w : ℕ} → SilentUpTo n ps lease x k → Turned n ps x k w r → lease x w ≡ 0 → SilentUpTo n ps lease x r
+  silent_next {k} h f z =
       record {
-        upto = f.upto;
-        beside = f.found;
-        silent = record {
-          none = λ j l b. order j k
-              (λ m. h.silent.none j m b)
-              (λ o. rw (o, ← e) z)
-              (λ m. absurd (true≢false (sym b ∙ f.skipped j (omega arith) l)));
-        };
+        none = λ j l b. order j k
+            (λ m. h.none j m b)
+            (λ o. rw (o, ← f.turned) z)
+            (λ m. absurd (true≢false (sym b ∙ f.next.skipped j (omega arith) l)));
       }
 
-  pub hushed_place : {first next : List ℕ} {k : ℕ} → n ≤ 256 → x < n → Linked n ps first next → k < n → Hushed n ps lease x k → Placed n ps first next x k
-  hushed_place few inside linked l h = record { room = few; inside = inside; place = l; beside = h.beside l; linked = linked }
-
-  pub hushed_all : {k : ℕ} → n ≤ k → Hushed n ps lease x k → SilentUpTo n ps lease x n
-  hushed_all l h = record { none = λ j m b. h.silent.none j (omega arith) b }
+  pub silent_all : {k : ℕ} → k ≡ n → SilentUpTo n ps lease x k → SilentUpTo n ps lease x n
+  silent_all e h = rw e at h
 
 -- ---- the walk
 

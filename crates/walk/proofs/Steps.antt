@@ -19,9 +19,10 @@ use Rattle.mechanism.specs.Views.{View}
 use Rattle.mechanism.specs.Combining.{Said, said, asked, heard, step_if, sofar, ask}
 use Rattle.trace.specs.declared.Trace.{Trace}
 use Rattle.trace.specs.inner.Traces.{pushed, pushed_all}
-use Rattle.walk.specs.inner.Links.{Found, neighbour_at, Placed}
+use Rattle.walk.specs.inner.Links.{Found, neighbour_at, Turned}
 use Rattle.walk.specs.inner.Asking.{Asking, Visiting, Replied, Visited}
 use Rattle.walk.proofs.Finding.{found_same}
+use Rattle.walk.proofs.Neighbours.{beside_inside}
 use Rattle.walk.proofs.Pushing.{pushed_all-none, pushed_all-append, pushed_all-asked}
 
 -- ---- a step by its ways; l is what `reads::lease` returned
@@ -84,12 +85,6 @@ pub record Partly (q : View) (f u v k : ℕ) (t : Trace) (z : ℤ) (t' : Trace) 
   pub sums : z ≡ (sofar sum q (ask sum q f) u v k).sum
   pub logs : t' ≡ pushed_all (sofar sum q (ask sum q f) u v k).log t
 
--- the same where k is the place of a neighbour, or the last candidate is taken
-pub record Standing (q : View) (f u v k : ℕ) (t : Trace) (z : ℤ) (t' : Trace) : Type 0 where
-  pub upto : k ≤ q.count
-  pub beside : k < q.count → neighbour_at q.count q.parents u k ≡ true
-  pub partly : Partly q f u v k t z t'
-
 sofar_next : (q : View) (next : ℕ → ℕ → Said) (u v k : ℕ) → sofar sum q next u v (k + 1) ≡ step q next u v (turn q.count u k) (sofar sum q next u v k)
 unfolding sofar
 sofar_next q next u v k = rw add-one
@@ -115,41 +110,38 @@ unfolding ask
 ask_some q zero u v d = absurd (d refl)
 ask_some q (suc f) u v d = rw sub-one
 
+partly_far : {q : View} {f u v k r : ℕ} {t t' : Trace} {z : ℤ} → Found q.count (neighbour_at q.count q.parents u) k r → Partly q f u v k t z t' → Partly q f u v r t z t'
+partly_far {q} {f} {u} {v} h a =
+    let e = sym (found_same (sofar sum q (ask sum q f) u v) (sofar_far q (ask sum q f) u v) h) in
+    record { sums = rw e at a.sums; logs = rw e at a.logs }
+
 module _ {q : View} {f u v : ℕ} {z : ℤ} {t : Trace} where
-  pub partly_none : z ≡ q.value u → Partly q f u v 0 t z t
+  pub partly_first : {r : ℕ} → Found q.count (neighbour_at q.count q.parents u) 0 r → z ≡ q.value u → Partly q f u v r t z t
   unfolding sofar pushed_all
-  partly_none e = record { sums = e; logs = refl }
-
-  pub partly_next : {k w : ℕ} {z' : ℤ} {t₁ t₂ : Trace} → w ≡ turn q.count u k → Partly q f u v k t z t₁ → Visited q f u v w z t₁ z' t₂ → Partly q f u v (k + 1) t z' t₂
-  partly_next e a b =
-      record {
-        sums = rw (sofar_next, step_split, ← e, ← a.sums) b.sums;
-        logs = rw (sofar_next, step_split, pushed_all-append, ← e, ← a.sums, ← a.logs) b.logs;
-      }
-
-  pub stand : {k r : ℕ} {t' : Trace} → Found q.count (neighbour_at q.count q.parents u) k r → Partly q f u v k t z t' → Standing q f u v r t z t'
-  stand h a =
-      let e = sym (found_same (sofar sum q (ask sum q f) u v) (sofar_far q (ask sum q f) u v) h) in
-      record { upto = h.upto; beside = h.found; partly = record { sums = rw e at a.sums; logs = rw e at a.logs } }
+  partly_first h e = partly_far h (record { sums = e; logs = refl })
 
   pub told_none : f ≡ 0 → z ≡ q.value u → Replied q f u v t z t
   unfolding ask pushed_all
   told_none e h = record { sums = rw e h; logs = rw e }
 
-  pub told_all : {k : ℕ} {t' : Trace} → f ≢ 0 → q.count ≤ k → Standing q (f - 1) u v k t z t' → Replied q f u v t z t'
-  told_all {k} d l h =
-      let e : k ≡ q.count = omega (arith, h.upto) in
-      record { sums = rw (ask_some q f u v d) (rw e at h.partly.sums); logs = rw (ask_some q f u v d) (rw e at h.partly.logs) }
+  pub told_all : {k : ℕ} {t' : Trace} → f ≢ 0 → k ≡ q.count → Partly q (f - 1) u v k t z t' → Replied q f u v t z t'
+  told_all d e a = record { sums = rw (ask_some q f u v d) (rw e at a.sums); logs = rw (ask_some q f u v d) (rw e at a.logs) }
 
-  pub visiting : {first next : List ℕ} {k w : ℕ} {t' : Trace} → Asking q first next u v → k < q.count → w ≡ turn q.count u k → Standing q f u v k t z t' → Visiting q first next f u v w z
-  unfolding neighbour_at
-  visiting {k = k} p h e a =
-      record {
-        asking = p;
-        there = rw e (turn_inside q.count u p.inside k h);
-        beside = rw e (a.beside h);
-        fits = rw (a.partly.sums, e) (rw (sofar_next, step_split) at (p.fit.fit f u v (k + 1) p.inside p.come (omega arith)));
-      }
+  module _ {k w r : ℕ} (g : Turned q.count q.parents u k w r) where
+    pub visiting : {first next : List ℕ} {t' : Trace} → Asking q first next u v → Partly q f u v k t z t' → Visiting q first next f u v w z
+    unfolding neighbour_at
+    visiting p a =
+        record {
+          asking = p;
+          there = beside_inside p.inside g;
+          beside = rw g.turned g.beside;
+          fits = rw (a.sums, g.turned) (rw (sofar_next, step_split) at (p.fit.fit f u v (k + 1) p.inside p.come (omega (arith, g.place))));
+        }
 
-  pub placed : {first next : List ℕ} {k : ℕ} {t' : Trace} → Asking q first next u v → k < q.count → Standing q f u v k t z t' → Placed q.count q.parents first next u k
-  placed p h a = record { room = p.room; inside = p.inside; place = h; beside = a.beside h; linked = p.linked }
+    pub partly_next : {z' : ℤ} {t₁ t₂ : Trace} → Partly q f u v k t z t₁ → Visited q f u v w z t₁ z' t₂ → Partly q f u v r t z' t₂
+    partly_next a b =
+        partly_far g.next
+        (record {
+          sums = rw (sofar_next, step_split, ← g.turned, ← a.sums) b.sums;
+          logs = rw (sofar_next, step_split, pushed_all-append, ← g.turned, ← a.sums, ← a.logs) b.logs;
+        })

@@ -21,10 +21,17 @@ pub record Linked (n : ℕ) (ps first next : List ℕ) : Type 0 where
 unfoldable pub neighbour_at : ℕ → List ℕ → ℕ → ℕ → Bool
 neighbour_at n ps u k = adjacent ps (turn n u k) u
 
--- k is the place of a neighbour of u
-pub record Placed (n : ℕ) (ps first next : List ℕ) (u k : ℕ) : Type 0 where
+-- the way round u may go on at the place k: it is a neighbour's, or past the last candidate
+pub record Going (n : ℕ) (ps first next : List ℕ) (u k : ℕ) : Type 0 where
   pub room : n ≤ 256
   pub inside : u < n
-  pub place : k < n
-  pub beside : neighbour_at n ps u k ≡ true
   pub linked : Linked n ps first next
+  pub upto : k ≤ n
+  pub beside : k < n → neighbour_at n ps u k ≡ true
+
+-- u's candidate w at the place k is a neighbour, and r is the place of the next one
+pub record Turned (n : ℕ) (ps : List ℕ) (u k w r : ℕ) : Type 0 where
+  pub place : k < n
+  pub turned : w ≡ turn n u k
+  pub beside : neighbour_at n ps u k ≡ true
+  pub next : Found n (neighbour_at n ps u) (k + 1) r

@@ -3,29 +3,34 @@ use mathlib.Core.Path.{◌≡◌, refl, ◌∙◌}
 use native.Mathlib.Omega.{arith}
 use mir.Syntax.{w64}
 use mir.Facts.{to_z-of_z}
-use Rattle.tree.specs.Turns.{turn}
 use Rattle.messages.proofs.Parts.{handed_on}
-use Rattle.walk.proofs.Steps.{visited_back, kept_fits, visited_kept, asked_fits, visited_asked, partly_none, partly_next, stand, told_none, told_all, visiting}
+use Rattle.walk.proofs.Steps.{visited_back, kept_fits, visited_kept, asked_fits, visited_asked, partly_first, partly_next, told_none, told_all, visiting}
+use Rattle.aggregate.proofs.Rounds.{round_on, turned, ended}
 use Rattle.aggregate.proofs.ask.+ask_visit.Goals as goal
 
 pub ask-returns-then-left-eq0 : goal.ask-returns-then-left-eq0
 ask-returns-then-left-eq0 t c = told_none c.if-left-eq0.true (handed_on _ c.value-sum.type_inv ∙ c.value-sum.ensures)
 
-pub ask-loop-k-init : goal.ask-loop-k-init
-ask-loop-k-init t c = stand c.first-k.ensures (partly_none (handed_on _ c.value-sum.type_inv ∙ c.value-sum.ensures))
+pub ask-loop-w-init : goal.ask-loop-w-init
+ask-loop-w-init t c =
+    let n = c.neighbours-w-items.ensures in
+    rw c.into_iter-w-iterator.ensures.into_iter_gives (n.round, partly_first n.first (handed_on _ c.value-sum.type_inv ∙ c.value-sum.ensures))
 
 pub ask-visit-sum-requires : goal.ask-visit-sum-requires
 ask-visit-sum-requires t c =
-    let e : c.turn-w.result ≡ turn c.args.session.now.tree.count c.args.u c.loop-k.k = rw c.from-count.ensures at c.turn-w.ensures in
-    (omega arith, visiting c.requires (omega (arith, c.from-count.ensures)) e c.loop-k.invariant)
+    let i = c.loop-w.invariant in
+    (omega arith, visiting (turned i.0 c.in-Some.ensures.steps) c.requires i.1)
 
-pub ask-loop-k-preserved : goal.ask-loop-k-preserved
-ask-loop-k-preserved t c =
-    let e : c.turn-w.result ≡ turn c.args.session.now.tree.count c.args.u c.loop-k.k = rw c.from-count.ensures at c.turn-w.ensures in
-    rw (handed_on c.visit-sum.result c.visit-sum.type_inv) (stand c.next-k.ensures (partly_next e c.loop-k.invariant.partly c.visit-sum.ensures))
+pub ask-loop-w-preserved : goal.ask-loop-w-preserved
+ask-loop-w-preserved t c =
+    let i = c.loop-w.invariant in
+    let g = c.in-Some.ensures.steps in
+    (round_on i.0 g.0, rw (handed_on c.visit-sum.result c.visit-sum.type_inv) (partly_next (turned i.0 g) i.1 c.visit-sum.ensures))
 
 pub ask-returns : goal.ask-returns
-ask-returns t c = told_all c.if-left-eq0.false (omega (arith, c.from-count.ensures)) c.loop-k.invariant
+ask-returns t c =
+    let i = c.loop-w.invariant in
+    told_all c.if-left-eq0.false (ended i.0 c.in-None.ensures.steps) i.1
 
 pub visit-returns-then-w-from : goal.visit-returns-then-w-from
 visit-returns-then-w-from t c = rw (to_z-of_z c.ranges.sum) (visited_back c.if-w-from.true)

@@ -3,9 +3,9 @@ use mathlib.Core.Path.{◌≡◌, refl}
 use native.Mathlib.Omega.{arith}
 use mir.Syntax.{w64}
 use mir.Facts.{to_z-of_z}
-use Rattle.tree.specs.Turns.{turn}
 use Rattle.messages.proofs.Parts.{handed_on}
-use Rattle.walk.proofs.Sends.{both_small, told_back, adds_fits, told_none, sends_fits, spreading_on, told_last, told_more, start_fits, partly_none, partly_next, stand, telling, spread_all, spread_none}
+use Rattle.walk.proofs.Sends.{both_small, told_back, adds_fits, told_none, sends_fits, spreading_on, told_last, told_more, start_fits, partly_first, partly_next, telling, spread_all, spread_none}
+use Rattle.aggregate.proofs.Rounds.{round_on, turned, ended}
 use Rattle.aggregate.proofs.spread.+spread_tell.Goals as goal
 
 pub spread-overflow_add-sum : goal.spread-overflow_add-sum
@@ -14,22 +14,27 @@ spread-overflow_add-sum t c = rw (handed_on c.value.result c.value.type_inv, to_
 pub spread-returns-then-left-eq0 : goal.spread-returns-then-left-eq0
 spread-returns-then-left-eq0 t c = spread_none c.if-left-eq0.true
 
-pub spread-loop-k-init : goal.spread-loop-k-init
-spread-loop-k-init t c =
-    rw (handed_on c.value.result c.value.type_inv, to_z-of_z c.ranges.told, c.value.ensures, to_z-of_z {w = w64} (start_fits c.requires)) (stand c.first-k.ensures (partly_none refl))
+pub spread-loop-w-init : goal.spread-loop-w-init
+spread-loop-w-init t c =
+    let n = c.neighbours-w-items.ensures in
+    rw c.into_iter-w-iterator.ensures.into_iter_gives
+    (n.round, rw (handed_on c.value.result c.value.type_inv, to_z-of_z c.ranges.told, c.value.ensures, to_z-of_z {w = w64} (start_fits c.requires)) (partly_first n.first refl))
 
 pub spread-tell-sum-requires : goal.spread-tell-sum-requires
 spread-tell-sum-requires t c =
-    let e : c.turn-w.result ≡ turn c.args.session.now.tree.count c.args.u c.loop-k.k = rw c.from-count.ensures at c.turn-w.ensures in
-    (omega arith, telling (rw (to_z-of_z c.ranges.told) c.requires) (omega (arith, c.from-count.ensures)) e c.loop-k.invariant)
+    let i = c.loop-w.invariant in
+    (omega arith, telling (turned i.0 c.in-Some.ensures.steps) i.1 (rw (to_z-of_z c.ranges.told) c.requires))
 
-pub spread-loop-k-preserved : goal.spread-loop-k-preserved
-spread-loop-k-preserved t c =
-    let e : c.turn-w.result ≡ turn c.args.session.now.tree.count c.args.u c.loop-k.k = rw c.from-count.ensures at c.turn-w.ensures in
-    rw (handed_on c.tell-sum.result c.tell-sum.type_inv) (stand c.next-k.ensures (partly_next e c.loop-k.invariant.partly c.tell-sum.ensures))
+pub spread-loop-w-preserved : goal.spread-loop-w-preserved
+spread-loop-w-preserved t c =
+    let i = c.loop-w.invariant in
+    let g = c.in-Some.ensures.steps in
+    (round_on i.0 g.0, rw (handed_on c.tell-sum.result c.tell-sum.type_inv) (partly_next (turned i.0 g) i.1 c.tell-sum.ensures))
 
 pub spread-returns : goal.spread-returns
-spread-returns t c = rw (to_z-of_z c.ranges.told) at (spread_all c.if-left-eq0.false (omega (arith, c.from-count.ensures)) c.loop-k.invariant)
+spread-returns t c =
+    let i = c.loop-w.invariant in
+    rw (to_z-of_z c.ranges.told) at (spread_all c.if-left-eq0.false (ended i.0 c.in-None.ensures.steps) i.1)
 
 pub tell-returns-then-w-from : goal.tell-returns-then-w-from
 tell-returns-then-w-from t c = rw (to_z-of_z c.ranges.sum) (told_back c.if-w-from.true)

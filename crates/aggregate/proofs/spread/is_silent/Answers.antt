@@ -1,18 +1,28 @@
 -- `spread::is_silent` meets its contract: no neighbour so far holds a lease.
-use mathlib.Core.Path.{◌≡◌}
-use Prim.Native.Nat.{◌<◌}
 use native.Mathlib.Omega.{arith}
-use Rattle.tree.specs.Turns.{turn}
-use Rattle.tree.proofs.Turns.{turn_inside}
+use Rattle.walk.proofs.Neighbours.{beside_inside}
+use Rattle.walk.proofs.Silence.{silent_first, silent_next, silent_all}
+use Rattle.aggregate.proofs.Rounds.{round_on, turned, ended}
 use Rattle.aggregate.proofs.spread.is_silent.Goals as goal
-use Rattle.aggregate.proofs.spread.is_silent.Goals.{After-turn-w}
 
--- the candidate is that at the place
-turned : (c : After-turn-w) → c.turn-w.result ≡ turn c.args.session.now.tree.count c.args.x c.loop-k.k
-turned c = rw c.from-count.ensures at c.turn-w.ensures
+pub loop-w-init : goal.loop-w-init
+loop-w-init c =
+    let n = c.neighbours-w-items.ensures in
+    rw c.into_iter-w-iterator.ensures.into_iter_gives (n.round, silent_first n.first)
 
 pub lease-requires : goal.lease-requires
 lease-requires c =
-    let n = c.args.session.now.tree.count in
-    let l : c.loop-k.k < n = omega (arith, c.from-count.ensures) in
-    (omega (arith, c.requires), omega (arith, c.requires.1.0, turned (goal.at.lease-requires c).After-turn-w, turn_inside n c.args.x c.requires.0 c.loop-k.k l))
+    let i = c.loop-w.invariant in
+    let w = beside_inside c.requires.0 (turned i.0 c.in-Some.ensures.steps) in
+    (omega (arith, c.requires), omega (arith, c.requires.1.0, w))
+
+pub loop-w-preserved : goal.loop-w-preserved
+loop-w-preserved c =
+    let i = c.loop-w.invariant in
+    let g = c.in-Some.ensures.steps in
+    (round_on i.0 g.0, silent_next i.1 (turned i.0 g) (rw c.lease.ensures at c.if-lease-ne0.false))
+
+pub returns : goal.returns
+returns c =
+    let i = c.loop-w.invariant in
+    λ _. silent_all (ended i.0 c.in-None.ensures.steps) i.1
