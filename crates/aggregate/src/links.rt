@@ -1,10 +1,9 @@
 // Each node's neighbours, one after the other, without a look at any other node.
-ghost use Rattle.std.specs.Prelude.{◌≡◌, ◌+◌, ◌-◌, ◌<◌, ◌≤◌};
+ghost use Rattle.std.specs.Prelude.{◌≡◌, ◌+◌, ◌<◌, ◌≤◌};
 ghost use Rattle.tree.specs.Parents.{Grown};
 ghost use Rattle.tree.specs.Turns as turns;
-ghost use Rattle.std.specs.Iterator.{at_most};
 ghost use Rattle.walk.specs.inner.Links.{Found, Going, Linked, neighbour_at};
-ghost use Rattle.aggregate.specs.inner.Rounds.{Round, May, Goes};
+ghost use Rattle.aggregate.specs.inner.Rounds.{Begun, Goes, left_of, MayGo};
 
 use tree::Tree;
 
@@ -36,9 +35,7 @@ impl Links {
     // The neighbours of u, in turn: its parent, then its children.
     pub fn neighbours<'a>(&'a self, tree: &'a Tree, u: usize) -> Neighbours<'a>
         requires { (u < tree.now.count) × ((tree.now.count ≤ 256) × Linked tree.now.count tree.now.parents self.now.first self.now.next) }
-        ensures round { Round self.now tree.now u result }
-        ensures first { Found tree.now.count (neighbour_at tree.now.count tree.now.parents u) 0 result.place }
-        ensures may { May result }
+        ensures { Begun self.now tree.now u result }
     {
         Neighbours {
             links: self,
@@ -83,11 +80,11 @@ pub struct Neighbours<'a> {
 impl Iterator for Neighbours<'_> {
     type Item = usize;
 
-    ghost can_next = { May };
+    ghost can_next = { MayGo };
 
     ghost next_gives = { Goes };
 
-    ghost remaining = { λ s. at_most (s.tree.now.count - s.place) };
+    ghost remaining = { left_of };
 
     fn next(&mut self) -> Option<usize> {
         let count = usize::from(self.tree.count);
