@@ -1,7 +1,7 @@
 -- A way round a node stays by its links and its tree, and says in their words what a call gives.
 use mathlib.Core.Path.{◌≡◌, ◌∙◌}
 use Prim.Native.Nat.{ℕ}
-use Rattle.std.specs.Prelude.{Option, Some, None}
+use Rattle.std.specs.Prelude.{Some, None}
 use Rattle.tree.specs.declared.Tree.{Tree}
 use Rattle.walk.specs.inner.Links.{Turned}
 use Rattle.aggregate.specs.inner.Rounds.{Round, Goes}

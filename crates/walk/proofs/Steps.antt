@@ -3,7 +3,7 @@ use mathlib.Core.Path.{◌≡◌, refl, sym, ◌∙◌}
 use mathlib.Core.Bool.{Bool, true, false, and-false}
 use mathlib.Core.Logic.{◌≢◌}
 use mathlib.Core.List.{List, [], ◌++◌, append-nil}
-use Prim.Native.Nat.{ℕ, zero, suc, ◌+◌, ◌-◌, ◌<◌, ◌≤◌}
+use Prim.Native.Nat.{ℕ, zero, suc, ◌+◌, ◌-◌}
 use native.Mathlib.Numerals.{add-one, sub-one}
 use native.Mathlib.Omega.{arith}
 use lib.IntN.{ℤ, ◌+ℤ◌}
@@ -13,7 +13,6 @@ use borrow.Author.Tests.{eq-eqb, ne_eqb}
 use Rattle.tree.specs.Operation.{sum}
 use Rattle.tree.specs.Sides.{adjacent, other}
 use Rattle.tree.specs.Turns.{turn}
-use Rattle.tree.proofs.Turns.{turn_inside}
 use Rattle.messages.specs.declared.Message.TheVariants.{Probe, Response}
 use Rattle.mechanism.specs.Views.{View}
 use Rattle.mechanism.specs.Combining.{Said, said, asked, heard, step_if, sofar, ask}

@@ -1,5 +1,5 @@
 -- The cycle of `ask::ask` and `ask::visit` meets its contracts: each step of the walk is a law of it.
-use mathlib.Core.Path.{◌≡◌, refl, ◌∙◌}
+use mathlib.Core.Path.{refl, ◌∙◌}
 use native.Mathlib.Omega.{arith}
 use mir.Syntax.{w64}
 use mir.Facts.{to_z-of_z}

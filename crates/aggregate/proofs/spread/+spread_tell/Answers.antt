@@ -1,5 +1,5 @@
 -- The cycle of `spread::spread` and `spread::tell` meets its contracts, by what each way through `tell` and each turn of `spread` adds.
-use mathlib.Core.Path.{◌≡◌, refl}
+use mathlib.Core.Path.{refl}
 use native.Mathlib.Omega.{arith}
 use mir.Syntax.{w64}
 use mir.Facts.{to_z-of_z}
