@@ -74,7 +74,7 @@ module _ (s : Session) (x : ℕ) (a : Act) (ms : List Message) where
   hit_of = paired (begun_of s x a) (applied ms (links_of (begun_of s x a)))
 
   -- as many numbers as before
-  pub climbing : Typed s → Sound 2 s → x < s.tree.count → Climbing s.tree.parents s.tree.count x hit_of.up.lease hit_of.down.lease
+  pub climbing : Typed s → Sound 2 s → x < s.tree.count → Climbing hit_of x
   climbing t i h =
       let w = wide_applied ms (links_of s) (wide t) in
       record { room = i.tree_in_rule.few; grown = i.tree_in_rule.grown; inside = h; up_long = w.up_long.leases; down_long = w.down_long.leases }

@@ -94,7 +94,7 @@ pub record Climbed (s : Session) (x : ℕ) (t : Session) (at i : ℕ) : Type 0 w
   pub low : Raised (λ j. below s.tree.parents j x) s.tree.count 2 s.down.lease i t.down.lease
   pub others : t ≡ numbered s t.up.lease t.down.lease
 
-module _ {s : Session} {x : ℕ} (o : Climbing s.tree.parents s.tree.count x s.up.lease s.down.lease) where
+module _ {s : Session} {x : ℕ} (o : Climbing s x) where
   pub climbed_none : Climbed s x s x s.tree.count
   climbed_none =
       record {

@@ -87,9 +87,6 @@ module _ {s : Session} {list : List ℕ} {answers : List ℤ} {log : List ℕ} {
       go [] l same = unfold runs in same
       go (r ∷ rs) l same = absurd (omega (arith, h))
 
-  pub log_kept : (r : Request) {log' : List ℕ} → log' ≡ log_of o.session r o.log o.totals.next → length log' ≡ length log
-  log_kept r logged = ap length logged ∙ request_length_kept o.session r o.log o.totals.next ∙ u.log_long
-
   -- ---- the next request
 
   module _ (l : o.totals.requests < count) where

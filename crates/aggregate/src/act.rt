@@ -12,6 +12,7 @@ use requests::Request;
 use session::Session;
 use trace::Trace;
 
+// A request without its node, which any number may stand for.
 #[derive(Clone, Copy)]
 pub enum Act {
     Combine,
@@ -59,7 +60,7 @@ pub fn walk(act: Act, session: &Session, links: &Links, trace: &mut Trace, x: us
 
 // A combine raises every pair that points to its node.
 pub fn settle(act: Act, session: &mut Session, x: usize)
-    requires { Climbing session.old.tree.parents session.old.tree.count x session.old.up.lease session.old.down.lease }
+    requires { Climbing session.old x }
     ensures { session.new ≡ spec.settled_of session.old x act }
 {
     match act {

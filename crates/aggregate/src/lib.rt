@@ -1,7 +1,8 @@
 // Sessions served: combine, write, and running a list of them.
 //
 // Every public function takes whatever it is handed and has one outcome. A refused call leaves all lent
-// memory as it was; a list that stops midway keeps what its earlier requests did.
+// memory as it was; a list that stops midway keeps what its earlier requests did. A log and a place in it
+// are two arguments, as document 01 names them.
 #![tactic(auto)]
 
 mod act; // what a combine and a write do in their turn

@@ -10,7 +10,7 @@ use session::Session;
 // Every pair that points to x gets the number that a combine gives it. `at` is the next node on the way
 // from x to the root: below it lies x, and below no other node of its number or more.
 pub fn raise(session: &mut Session, x: usize)
-    requires { Climbing session.old.tree.parents session.old.tree.count x session.old.up.lease session.old.down.lease }
+    requires { Climbing session.old x }
     ensures { session.new ≡ paired session.old (raised session.old.tree.parents session.old.tree.count 2 x (links_of session.old)) }
 {
     let mut at = x;

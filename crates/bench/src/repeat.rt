@@ -1,6 +1,4 @@
 // One call, many times over, each time on the same session.
-ghost use Rattle.std.specs.Prelude.{◌<◌, ◌≤◌};
-
 use aggregate::{Ran, Served};
 use refusal::Refusal;
 use session::Session;
@@ -133,13 +131,11 @@ fn run(session: &Session, list: &[u8], log: &mut [u8]) -> u32 {
 }
 
 // Makes a list of 64 requests of so many bits.
-fn fill(list: &mut [u8], width: usize, request: u64)
-    requires some { 0 < width }
-    requires few { width ≤ 64 }
-{
+fn fill(list: &mut [u8], width: u8, request: u64) {
+    let width = usize::from(width);
     fields::put(list, 0, 13, 64);
-    for place in (13..13 + 64 * width).step_by(width) {
-        fields::put(list, place, width, request);
+    for k in 0..64 {
+        fields::put(list, 13 + k * width, width, request);
     }
 }
 
@@ -147,13 +143,13 @@ fn number(refusal: Refusal) -> u32 {
     u32::from(u8::from(refusal))
 }
 
-// The last 32 bits of a number.
+// The last 32 bits of a number. `cases` has this and the next too, and no crate for two lines is
+// plainer.
 fn low(x: u64) -> u32 {
     (x % 4294967296) as u32
 }
 
-// A sum, modulo 2^32, that tells where each of its parts stood: a line that `cases` has too, and no
-// crate for it is plainer.
+// A sum, modulo 2^32, that tells where each of its parts stood.
 fn mixed(sum: u32, said: u32) -> u32 {
     sum.wrapping_mul(31).wrapping_add(said)
 }

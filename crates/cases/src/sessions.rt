@@ -98,7 +98,8 @@ fn run(
     Ok(session)
 }
 
-// `rww` has the same `match`: programs share no crate, and one for this alone would be no plainer.
+// A request, logged from a place on. `rww` has the same `match`: programs share no crate, and one for
+// this alone would be no plainer.
 pub fn asked(
     session: Session,
     request: Request,
@@ -106,8 +107,8 @@ pub fn asked(
     place: usize,
 ) -> Result<Served, Refusal> {
     match request {
-        Request::Combine(x) => aggregate::combine(session, x as usize, log, place),
-        Request::Write(x, value) => aggregate::write(session, x as usize, value, log, place),
+        Request::Combine(x) => aggregate::combine(session, usize::from(x), log, place),
+        Request::Write(x, value) => aggregate::write(session, usize::from(x), value, log, place),
     }
 }
 

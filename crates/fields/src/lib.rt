@@ -27,7 +27,8 @@ pub fn get(bytes: &[u8], place: usize, width: usize) -> Result<u64, Refusal>
 }
 
 // Makes the width bits from place on hold value, and answers true. Where the usable bytes have no
-// such bits, or the bits no room for the value, it answers false and changes nothing.
+// such bits, or the bits no room for the value, it answers false and changes nothing. It is a bool, since
+// which refusal that is, its caller knows (docs/DECISIONS.md).
 #[tactic(auto, unfolding(crate::specs::Usable::put_at), using(crate::proofs::Rooms::taking))]
 pub fn put(bytes: &mut [u8], place: usize, width: usize, value: u64) -> bool
     ensures { (result ≡ takes (length bytes.old) place width value) × (bytes.new ≡ put_at bytes.old place width value) }

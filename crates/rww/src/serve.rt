@@ -14,6 +14,7 @@ pub fn list(rt: &impl Print, mut session: Session, list: &[u8]) -> io::Result<()
     };
     let mut place = judged.first;
     let mut sum: u64 = 0;
+    // Counted, where `cases` has an iterator: that the sum fits is known by how many requests there are.
     for index in 0..judged.requests {
         // An accepted list has every request.
         let Ok((request, next)) = requests::request_at(list, place) else {
@@ -41,7 +42,7 @@ pub fn list(rt: &impl Print, mut session: Session, list: &[u8]) -> io::Result<()
 fn one(session: Session, request: Request) -> Result<Served, Refusal> {
     let mut log = [0u8; 2423];
     match request {
-        Request::Combine(node) => aggregate::combine(session, node as usize, &mut log, 0),
-        Request::Write(node, value) => aggregate::write(session, node as usize, value, &mut log, 0),
+        Request::Combine(x) => aggregate::combine(session, usize::from(x), &mut log, 0),
+        Request::Write(x, value) => aggregate::write(session, usize::from(x), value, &mut log, 0),
     }
 }

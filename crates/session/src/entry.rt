@@ -8,7 +8,7 @@ use crate::pass::{every, none};
 use rule::Rule;
 
 // Whether the entries of all pairs of one direction are within their limits: from child to parent, or
-// from parent to child (down).
+// from parent to child (down). A closure in place of `down` would need a clause that says what it answers.
 pub fn pairs(count: u16, twice: u32, down: bool, sizes: &[u16; 256], pairs: &Pairs) -> bool
     requires { (1 ≤ count) × (count ≤ 256) }
     ensures { result ≡ pass.pairs count twice down sizes.now pairs.now.lease pairs.now.cache pairs.now.messages }

@@ -23,6 +23,8 @@ pub fn encode(value: i64, width: usize) -> Result<u64, Refusal>
 }
 
 // The number that stands for an i32 in a field of width bits, two's complement. Refusal: as of `encode`.
+// It and `decode32` stay for their theorems, which docs/PROMISES.md names; one generic pair would take a
+// trait with two functions and two laws for these two lines.
 pub fn encode32(value: i32, width: usize) -> Result<u64, Refusal>
     ensures { result ≡ encoded width value }
 {
