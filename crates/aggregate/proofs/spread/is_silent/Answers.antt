@@ -1,6 +1,6 @@
 -- `spread::is_silent` meets its contract: no neighbour so far holds a lease.
+use mathlib.Core.Path.{◌≡◌, sym, ◌∙◌}
 use native.Mathlib.Omega.{arith}
-use Rattle.std.proofs.Common.{rules}
 use Rattle.walk.proofs.Neighbours.{beside_inside}
 use Rattle.walk.proofs.Silence.{silent_first, silent_next, silent_all}
 use Rattle.aggregate.proofs.Rounds.{round_on, turned, ended}
@@ -21,7 +21,8 @@ pub loop-w-preserved : goal.loop-w-preserved
 loop-w-preserved c =
     let i = c.loop-w.invariant in
     let g = c.in-Some.ensures.steps in
-    (round_on i.0 g.0, silent_next i.1 (turned i.0 g) (search rules))
+    let none : c.lease.result ≡ 0 = omega arith in
+    (round_on i.0 g.0, silent_next i.1 (turned i.0 g) (sym c.lease.ensures ∙ none))
 
 pub returns : goal.returns
 returns c =
