@@ -9,7 +9,7 @@ pub fn read(bytes: &[u8], k: usize) -> u64
     ensures { result ≡ bit bytes.now k }
 {
     let x = bytes[k / 8];
-    ((x >> (7 - k % 8)) % 2) as u64
+    u64::from((x >> (7 - k % 8)) % 2)
 }
 
 #[tactic(auto, unfolding(crate::specs::Bits::put_bit))]

@@ -10,10 +10,7 @@ const USABLE: usize = 65536;
 pub fn usable_bits(len: usize) -> usize
     ensures { result ≡ usable_bits len }
 {
-    if USABLE < len {
-        return 8 * USABLE;
-    }
-    8 * len
+    8 * len.min(USABLE)
 }
 
 // Whether the width bits from place on are at most 64 and lie in the usable ones of len bytes.

@@ -7,10 +7,10 @@ use crate::Message;
 
 #[derive(Clone, Copy, Debug, PartialEq, Eq)]
 pub enum Kind {
-    Probe,
-    Response,
-    Update,
-    Release,
+    Probe = 0,
+    Response = 1,
+    Update = 2,
+    Release = 3,
 }
 
 impl Kind {
@@ -46,12 +46,7 @@ impl From<Kind> for u64 {
     ghost from_gives = { λ k n. n ≡ number k };
 
     fn from(kind: Kind) -> u64 {
-        match kind {
-            Kind::Probe => 0,
-            Kind::Response => 1,
-            Kind::Update => 2,
-            Kind::Release => 3,
-        }
+        kind as u64
     }
 }
 

@@ -12,29 +12,29 @@ use std::fmt;
 
 #[derive(Clone, Copy, Debug, PartialEq, Eq, Hash)]
 pub enum Refusal {
-    // 1: a table, list or log ends before a field that is due, or the log reader's place or end is out
+    // a table, list or log ends before a field that is due, or the log reader's place or end is out
     // of rule
-    Short,
-    // 2: the node count is 0 or above 256
-    NodeCount,
-    // 3: a parent is not smaller than its child
-    Parent,
-    // 4: a filling bit is set, or bytes are left over
-    LeftOver,
-    // 5: the count of a list is above 4,096
-    ListCount,
-    // 6: the session is unsound, or the tree is out of rule
-    Unsound,
-    // 7: the node is not in the tree
-    NoNode,
-    // 8: 1,048,576 requests are already accepted
-    Limit,
-    // 9: a place past the usable log, too little room in it, or an output that is too short
-    NoRoom,
-    // 10: fewer answer places than combines in the list
-    FewAnswers,
-    // 11: a value does not fit its bits
-    Misfit,
+    Short = 1,
+    // the node count is 0 or above 256
+    NodeCount = 2,
+    // a parent is not smaller than its child
+    Parent = 3,
+    // a filling bit is set, or bytes are left over
+    LeftOver = 4,
+    // the count of a list is above 4,096
+    ListCount = 5,
+    // the session is unsound, or the tree is out of rule
+    Unsound = 6,
+    // the node is not in the tree
+    NoNode = 7,
+    // 1,048,576 requests are already accepted
+    Limit = 8,
+    // a place past the usable log, too little room in it, or an output that is too short
+    NoRoom = 9,
+    // fewer answer places than combines in the list
+    FewAnswers = 10,
+    // a value does not fit its bits
+    Misfit = 11,
 }
 
 // The refusal's number.
@@ -42,19 +42,7 @@ impl From<Refusal> for u8 {
     ghost from_gives = { Numbers };
 
     fn from(refusal: Refusal) -> u8 {
-        match refusal {
-            Refusal::Short => 1,
-            Refusal::NodeCount => 2,
-            Refusal::Parent => 3,
-            Refusal::LeftOver => 4,
-            Refusal::ListCount => 5,
-            Refusal::Unsound => 6,
-            Refusal::NoNode => 7,
-            Refusal::Limit => 8,
-            Refusal::NoRoom => 9,
-            Refusal::FewAnswers => 10,
-            Refusal::Misfit => 11,
-        }
+        refusal as u8
     }
 }
 
