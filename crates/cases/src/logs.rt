@@ -1,6 +1,6 @@
 // Logs: messages written, and read.
 use crate::show::Bytes;
-use messages::Message;
+use messages::{LogReader, Message};
 use refusal::Refusal;
 use std::{fmt, io};
 
@@ -23,6 +23,7 @@ pub fn write(rt: &impl Print, place: u64, b: u64, c: u64, log: &mut [u8]) -> io:
     println!(rt; "{}{}", Bytes(log), Found(read))
 }
 
+// The kind is a number here alone: a case gives it as 2 bits.
 fn message(kind: u64, from: u8, to: u8, value: i64) -> Message {
     match kind {
         0 => Message::Probe(from, to),
@@ -41,28 +42,30 @@ pub fn read(rt: &impl Print, place: u64, end: u64, log: &[u8]) -> io::Result<()>
 }
 
 fn all(rt: &impl Print, place: usize, end: usize, log: &[u8]) -> io::Result<()> {
-    let mut at = place;
+    let mut reader = LogReader::new(log, place);
     for _ in 0..1000 {
-        let read = messages::read(log, at, end);
+        let read = reader.read(end);
         print!(rt; "{}", Found(read))?;
-        let Ok(Some((_, next))) = read else {
-            return Ok(());
-        };
-        at = next;
+        if !is_message(read) {
+            break;
+        }
     }
     Ok(())
 }
 
 // How many messages stand in the log from a place on: a usable log has room for no more than 29,127.
 fn count(place: usize, end: usize, log: &[u8]) -> usize {
-    let mut at = place;
+    let mut reader = LogReader::new(log, place);
     for n in 0..29127 {
-        let Ok(Some((_, next))) = messages::read(log, at, end) else {
+        if !is_message(reader.read(end)) {
             return n;
-        };
-        at = next;
+        }
     }
     29127
+}
+
+fn is_message(read: Result<Option<(Message, usize)>, Refusal>) -> bool {
+    matches!(read, Ok(Some(_)))
 }
 
 // What stands at a place of a log.

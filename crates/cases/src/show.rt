@@ -57,7 +57,7 @@ impl fmt::Display for Digits<'_> {
     }
 }
 
-// A sum, modulo 2^32, that tells where each of its parts stood.
+// A sum, modulo 2^32, that tells where each of its parts stood. `bench` has it and `low` too.
 pub fn mixed(sum: u32, x: u32) -> u32 {
     sum.wrapping_mul(31).wrapping_add(x)
 }

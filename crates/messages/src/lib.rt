@@ -1,7 +1,8 @@
 // Messages between neighbours, and the log in which each is a record of bits.
 //
 // Every public function is total: it takes whatever it is handed and has one outcome. Only the first
-// 65,536 bytes of a log, or all of a shorter one, are ever used: the usable log.
+// 65,536 bytes of a log, or all of a shorter one, are ever used: the usable log. A log and a place in it are
+// two arguments, as document 01 has the plain form; `LogReader` holds both.
 #![tactic(auto)]
 
 mod kind; // a message's kind

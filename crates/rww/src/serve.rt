@@ -14,7 +14,6 @@ pub fn list(rt: &impl Print, mut session: Session, list: &[u8]) -> io::Result<()
     };
     let mut place = judged.first;
     let mut sum: u64 = 0;
-    // Counted, where `cases` has an iterator: that the sum fits is known by how many requests there are.
     for index in 0..judged.requests {
         // An accepted list has every request.
         let Ok((request, next)) = requests::request_at(list, place) else {

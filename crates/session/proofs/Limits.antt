@@ -1,7 +1,7 @@
 -- The limits of an entry, and what they say together.
 use mathlib.Core.Path.{◌≡◌, refl, sym, ap, ap₂, ◌∙◌}
-use mathlib.Core.Bool.{true, ◌&&◌, true≢false, and-eq-true_iff}
-use Prim.Native.Nat.{ℕ, zero, suc, ◌*◌, ◌^◌, ◌≤◌, ◌<◌}
+use mathlib.Core.Bool.{Bool, true, ◌&&◌, true≢false, and-eq-true_iff}
+use Prim.Native.Nat.{ℕ, zero, suc, ◌+◌, ◌*◌, ◌^◌, ◌≤◌, ◌<◌}
 use native.Mathlib.Omega.{arith}
 use lib.Dec.{eqb, leb}
 use lib.Bits.{bit_or, or_add_and, and_le_l, and_le_r}
@@ -12,7 +12,9 @@ use mir.Syntax.{Width, w64}
 use mir.Val.{SFits, to_z, of_z}
 use mir.Facts.{to_z-of_z, of_z-to_z, Fits-or, Fits-of_z}
 use Rattle.tree.specs.Ranges.{in_range}
-use Rattle.tree.proofs.Every.{same_test}
+use Rattle.tree.specs.inner.Places.{from}
+use Rattle.tree.specs.Every.{every}
+use Rattle.tree.proofs.Every.{same_test, from_more}
 use Rattle.session.specs.Soundness.{in_limits}
 
 -- ---- the range: its lower end has 64 bits
@@ -68,6 +70,9 @@ join_zero w a b back forth f g h =
     ∙ ap (λ n. eqb n 0) (of_z-to_z {w = w} (Fits-or {w = w} (Fits-of_z {w = w} f) (Fits-of_z {w = w} g)))
     ∙ or_none (of_z w a) (of_z w b)
     ∙ ap₂ ◌&&◌ (zero_test w a back forth f) (zero_test w b back forth g)
+
+pub none_more : (test : ℕ → Bool) (k i a b : ℕ) → k ≤ i → eqb a 0 ≡ every (from k test) i → eqb b 0 ≡ test i → eqb (bit_or a b) 0 ≡ every (from k test) (i + 1)
+none_more test k i a b h e f = or_none a b ∙ from_more test k i (eqb a 0) (eqb b 0) h e f
 
 -- ---- lease number, messages and cache
 

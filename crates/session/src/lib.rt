@@ -21,7 +21,7 @@ use refusal::Refusal;
 use tree::Tree;
 
 // What is held of one ordered pair for each edge, at the place of the child: the lease number, the
-// cache for the near side, and the messages sent so far.
+// cache for the near side, and the messages sent so far. An array for each, as document 01 names the form.
 #[repr(C)]
 #[derive(Clone, Copy)]
 pub struct Pairs {

@@ -1,11 +1,12 @@
-// Passes over all of a list, which do not stop at what they find.
+// Passes over all of a list, which do not stop at what they find, so that many places are taken at once.
 ghost use Rattle.std.specs.Prelude.{◌≡◌, ◌&&◌, ◌≤◌, ◌<◌, ℕ, Bool, true, eqb};
 ghost use Rattle.std.specs.List.{list_all};
 ghost use Rattle.tree.specs.Ranges.{in_range};
 ghost use Rattle.tree.specs.inner.Places.{from};
 ghost use Rattle.tree.specs.Every.{every};
 
-// A number of an entry. What is joined by `|` is zero where both are.
+// A number of an entry. What is joined by `|` is zero where both are. There is an impl for each type, since
+// none may be written by a macro of the repository.
 pub trait Entry: Copy {
     ghost is_zero: { Self → Bool };
 

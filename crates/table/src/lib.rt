@@ -46,6 +46,6 @@ pub fn write(tree: Tree, out: &mut [u8]) -> Result<usize, Refusal>
     }
     out[..bytes].fill(0);
     fields::put(out, 0, 9, u64::from(tree.count));
-    writer::parents(out, &tree.parents, count);
+    writer::parents(out, &tree);
     Ok(bytes)
 }

@@ -9,7 +9,9 @@ mod edge; // neighbours, is_below
 mod entry; // in_rule
 mod pass; // sizes
 
-// The nodes are 0 to count - 1. Entry 0 of parents, and those from count on, are not used and zero.
+// The nodes are 0 to count - 1. Entry 0 of parents, and those from count on, are not used and zero. Anything
+// may stand in the fields, so there is no invariant: functions that need 1 to 256 nodes ask for them. Parents
+// are an array of 256, as document 01 has what is held of nodes; there is no heap.
 #[repr(C)]
 #[derive(Clone, Copy, Debug, PartialEq, Eq)]
 pub struct Tree {

@@ -1,4 +1,5 @@
-// A number and its sign: two's complement in a field of 1 to 64 bits.
+// A number and its sign: two's complement in a field of 1 to 64 bits. Three functions ask for such a width;
+// a type that says so would be made and taken apart at each call, and is no plainer.
 ghost use Rattle.std.specs.Prelude.{◌≡◌, ◌<◌, ◌≤◌, ◌-◌, ◌^◌, negsuc};
 ghost use Rattle.std.specs.Int.Signed.{mag};
 ghost use Rattle.twos.specs.Twos.{twos, signed};

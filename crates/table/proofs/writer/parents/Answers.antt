@@ -8,5 +8,5 @@ loop-child-init c = none_stored _ _ _ c.requires.0 c.requires.1.0
 
 pub loop-child-preserved : goal.loop-child-preserved
 loop-child-preserved c =
-    one_stored _ _ _ c.requires.0 c.requires.1.0 _ _ _ c.loop-child.invariant c.loop-child-test.true _ c.of_parent-width.ensures
+    one_stored _ _ _ c.requires.0 c.requires.1.0 _ _ _ c.loop-child.invariant (rw c.from-child-end.ensures at c.loop-child-test.true) _ c.of_parent-width.ensures
     c.requires.1.1.0 c.requires.1.1.1 _ (search rules)

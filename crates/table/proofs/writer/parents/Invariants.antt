@@ -3,4 +3,4 @@ use Rattle.table.proofs.Stores.{Stored}
 use Rattle.table.proofs.writer.parents.Given as goal
 
 abbrev pub invariant-loop-child : goal.invariant-loop-child
-invariant-loop-child l = Stored l.initial.out l.parents l.count l.out l.place l.child
+invariant-loop-child l = Stored l.initial.out l.tree.parents l.tree.count l.out l.place l.child
