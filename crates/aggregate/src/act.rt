@@ -12,7 +12,8 @@ use requests::Request;
 use session::Session;
 use trace::Trace;
 
-// A request without its node, which any number may stand for.
+// A request without its node, which any number may stand for. Three steps match on it: it has two
+// cases, both known, and a trait or closures in its place would have each step twice, with the same laws.
 #[derive(Clone, Copy)]
 pub enum Act {
     Combine,

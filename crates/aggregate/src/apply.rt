@@ -16,6 +16,8 @@ pub fn apply(session: &mut Session, trace: &Trace)
     requires { Counts 2097152 (links_of session.old) }
     ensures { session.new ≡ paired session.old (spec.applied (messages_of trace.now.numbers trace.now.len) (links_of session.old)) }
 {
+    // `Trace::used` of `trace` is the same slice, and private: the contract of a public function could
+    // not say which borrow it answers, so that it would have more than one outcome.
     let used = &trace.numbers[..trace.len.min(510)];
     for number in used {
         let message = messages::decode(*number);

@@ -8,7 +8,8 @@ use crate::reads;
 use session::Session;
 
 // What each node knows of its neighbours after a neighbour, at the place of the child: from child to
-// parent in `up`, and from parent to child in `down`.
+// parent in `up`, and from parent to child in `down`. Arrays of numbers, since there is no heap and
+// memory is fixed.
 #[derive(Clone, Copy)]
 pub struct Later {
     pub up: [i64; 256],

@@ -26,6 +26,7 @@ ghost use Rattle.aggregate.specs.Told.{told_served, told_ran};
 
 use act::Act;
 use refusal::Refusal;
+use requests::Request;
 use session::Session;
 
 // What a request answers: the answer (0 for a write), its messages and the next log place.
@@ -91,6 +92,20 @@ pub fn write(
     ensures { (told_served session result ≡ served_of session (Write x value) (length log.old) place) × (log.new ≡ log_of session (Write x value) log.old place) }
 {
     serve::whole(session, x, Act::Write(value), log, place)
+}
+
+// A request, such as `requests::request_at` reads of a list, logged from place on: the combine or the
+// write that it is. Refusals: as for a combine.
+pub fn request(
+    session: Session,
+    request: Request,
+    log: &mut [u8],
+    place: usize,
+) -> Result<Served, Refusal>
+    ensures { (told_served session result ≡ served_of session request (length log.old) place) × (log.new ≡ log_of session request log.old place) }
+{
+    let (x, act) = act::of(request);
+    serve::whole(session, x, act, log, place)
 }
 
 // The requests of a list, each logged where the one before ended, the answers of combines one behind

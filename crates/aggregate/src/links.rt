@@ -7,8 +7,9 @@ ghost use Rattle.aggregate.specs.inner.Rounds.{Begun, Goes, left_of, MayGo};
 
 use tree::Tree;
 
-// Each node's first child, and the next child of its parent; the tree's count for none. They are lent
-// beside the session and not held with it: a request writes the session while the links stay.
+// Each node's first child, and the next child of its parent; the tree's count for none. Arrays of
+// numbers, since there is no heap and memory is fixed. They are lent beside the session and not held
+// with it: a request writes the session while the links stay.
 #[derive(Clone, Copy)]
 pub struct Links {
     pub first: [u16; 256],

@@ -1,5 +1,5 @@
 -- The cycle of `ask::ask` and `ask::visit` meets its contracts: each step of the walk is a law of it.
-use mathlib.Core.Path.{refl, ◌∙◌}
+use mathlib.Core.Path.{refl, sym, ◌∙◌}
 use native.Mathlib.Omega.{arith}
 use mir.Syntax.{w64}
 use mir.Facts.{to_z-of_z}
@@ -25,7 +25,7 @@ pub ask-loop-w-preserved : goal.ask-loop-w-preserved
 ask-loop-w-preserved t c =
     let i = c.loop-w.invariant in
     let g = c.in-Some.ensures.steps in
-    (round_on i.0 g.0, rw (handed_on c.visit-sum.result c.visit-sum.type_inv) (partly_next (turned i.0 g) i.1 c.visit-sum.ensures))
+    (round_on i.0 g.0, partly_next (turned i.0 g) i.1 (rw (sym (handed_on c.visit-sum.result c.visit-sum.type_inv)) at c.visit-sum.ensures))
 
 pub ask-returns : goal.ask-returns
 ask-returns t c =
