@@ -87,7 +87,7 @@ fn run(
     for request in Requests::of(list, judged) {
         let mut log = [0u8; 2500];
         let room = log.len().min(room);
-        let served = asked(session, request, &mut log[..room], place);
+        let served = aggregate::request(session, request, &mut log[..room], place);
         outcome(rt, &served)?;
         print!(rt; " log{}", Bytes(&log))?;
         let Ok(Served { session: after, .. }) = served else {
@@ -96,20 +96,6 @@ fn run(
         session = after;
     }
     Ok(session)
-}
-
-// A request, logged from a place on. `rww` has the same `match`: programs share no crate, and one for
-// this alone would be no plainer.
-pub fn asked(
-    session: Session,
-    request: Request,
-    log: &mut [u8],
-    place: usize,
-) -> Result<Served, Refusal> {
-    match request {
-        Request::Combine(x) => aggregate::combine(session, usize::from(x), log, place),
-        Request::Write(x, value) => aggregate::write(session, usize::from(x), value, log, place),
-    }
 }
 
 // What a request told: the number of a refusal, the answer, the messages and the next log place.

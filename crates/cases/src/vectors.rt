@@ -37,7 +37,7 @@ fn run(
     let mut sum = 0u32;
     for (index, request) in requests.enumerate() {
         let mut log = [0u8; 2423];
-        let served = match sessions::asked(session, request, &mut log, 0) {
+        let served = match aggregate::request(session, request, &mut log, 0) {
             Ok(served) => served,
             Err(refusal) => return println!(rt; "request {index} {}", u8::from(refusal)),
         };

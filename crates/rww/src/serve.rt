@@ -39,9 +39,5 @@ pub fn list(rt: &impl Print, mut session: Session, list: &[u8]) -> io::Result<()
 // One request, with a log of its own: from bit 0 on, with room for the 19,380 bits that a request
 // takes at most.
 fn one(session: Session, request: Request) -> Result<Served, Refusal> {
-    let mut log = [0u8; 2423];
-    match request {
-        Request::Combine(x) => aggregate::combine(session, usize::from(x), &mut log, 0),
-        Request::Write(x, value) => aggregate::write(session, usize::from(x), value, &mut log, 0),
-    }
+    aggregate::request(session, request, &mut [0; 2423], 0)
 }
