@@ -6,7 +6,7 @@ ghost use Rattle.trace.specs.inner.Traces as traces;
 ghost use Rattle.aggregate.specs.inner.Afters.{Climbing};
 ghost use Rattle.aggregate.specs.inner.Acts as spec;
 
-use crate::links::Links;
+use crate::ground::Ground;
 use crate::{ask, raise, spread};
 use requests::Request;
 use session::Session;
@@ -42,18 +42,18 @@ pub fn begin(act: Act, session: &mut Session, x: usize)
 }
 
 // The walk, from an empty trace, and its sum.
-pub fn walk(act: Act, session: &Session, links: &Links, trace: &mut Trace, x: usize) -> i64
-    requires { spec.Walkable (view session.now) links.now.first links.now.next x }
-    ensures { spec.Walked act (view session.now) x result (traces.trace trace.old.numbers 0) trace.new }
+pub fn walk(act: Act, ground: Ground<'_>, trace: &mut Trace, x: usize) -> i64
+    requires { spec.Walkable (view ground.session.now) ground.links.now.first ground.links.now.next x }
+    ensures { spec.Walked act (view ground.entry.session.now) x result (traces.trace trace.old.numbers 0) trace.new }
 {
     trace.len = 0;
     match act {
         Act::Combine => {
-            let count = usize::from(session.tree.count);
-            ask::ask(session, links, trace, x, x, count)
+            let count = usize::from(ground.session.tree.count);
+            ask::ask(ground, trace, x, x, count)
         }
         Act::Write(_) => {
-            spread::from(session, links, trace, x);
+            spread::from(ground, trace, x);
             0
         }
     }

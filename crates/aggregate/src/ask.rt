@@ -2,32 +2,23 @@
 ghost use Rattle.mechanism.specs.Views.{view};
 ghost use Rattle.walk.specs.inner.Asking.{Asking, Visiting, Replied, Visited};
 
-use crate::links::Links;
-use crate::reads;
+use crate::ground::Ground;
 use messages::Message;
-use session::Session;
 use trace::Trace;
 
 // u, come from a neighbour or from nowhere, asks those of its other neighbours in turn from which it
 // holds no lease, and answers the sum.
 #[cycle(ask_visit)]
-pub fn ask(
-    session: &Session,
-    links: &Links,
-    trace: &mut Trace,
-    u: usize,
-    from: usize,
-    left: usize,
-) -> i64
-    requires { Asking (view session.now) links.now.first links.now.next u from }
-    ensures { Replied (view session.now) left u from trace.old result trace.new }
+pub fn ask(ground: Ground<'_>, trace: &mut Trace, u: usize, from: usize, left: usize) -> i64
+    requires { Asking (view ground.session.now) ground.links.now.first ground.links.now.next u from }
+    ensures { Replied (view ground.entry.session.now) left u from trace.old result trace.new }
 {
-    let mut sum = reads::value(session, u);
+    let mut sum = ground.value(u);
     if left == 0 {
         return sum;
     }
-    for w in links.neighbours(&session.tree, u) {
-        sum = visit(session, links, trace, u, from, left - 1, w, sum);
+    for w in ground.neighbours(u) {
+        sum = visit(ground, trace, u, from, left - 1, w, sum);
     }
     sum
 }
@@ -36,8 +27,7 @@ pub fn ask(
 // else w is asked. Answers the sum with what w adds.
 #[cycle(ask_visit)]
 fn visit(
-    session: &Session,
-    links: &Links,
+    ground: Ground<'_>,
     trace: &mut Trace,
     u: usize,
     from: usize,
@@ -45,17 +35,17 @@ fn visit(
     w: usize,
     sum: i64,
 ) -> i64
-    requires { Visiting (view session.now) links.now.first links.now.next left u from w sum }
-    ensures { Visited (view session.now) left u from w sum trace.old result trace.new }
+    requires { Visiting (view ground.session.now) ground.links.now.first ground.links.now.next left u from w sum }
+    ensures { Visited (view ground.entry.session.now) left u from w sum trace.old result trace.new }
 {
     if w == from {
         return sum;
     }
-    if reads::lease(session, w, u) != 0 {
-        return sum + reads::cache(session, w, u);
+    if ground.lease(w, u) != 0 {
+        return sum + ground.cache(w, u);
     }
     trace.push(Message::Probe(u as u8, w as u8));
-    let heard = ask(session, links, trace, w, u, left);
+    let heard = ask(ground, trace, w, u, left);
     trace.push(Message::Response(w as u8, u as u8, heard));
     sum + heard
 }

@@ -4,7 +4,7 @@ ghost use Rattle.session.specs.Holding.{pair_at};
 ghost use Rattle.mechanism.specs.Views.{view};
 ghost use Rattle.walk.specs.inner.Laters.{Passing, Passed};
 
-use crate::reads;
+use crate::ground;
 use session::Session;
 
 // What each node knows of its neighbours after a neighbour, at the place of the child: from child to
@@ -44,7 +44,7 @@ impl Later {
         requires { (u < 256) × (v < 256) }
         ensures { result ≡ pair_at (pos 0) self.now.up self.now.down u v }
     {
-        reads::entry(&self.up, &self.down, u, v)
+        ground::entry(&self.up, &self.down, u, v)
     }
 }
 

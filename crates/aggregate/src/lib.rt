@@ -8,11 +8,11 @@
 mod act; // what a combine and a write do in their turn
 mod apply; // what messages make of a session
 mod ask; // the walk of a combine
+mod ground; // what the walks read
 mod judge; // whether a request is refused before its walk
 mod later; // what comes after each neighbour
 mod links; // each node's neighbours, one after the other
 mod raise; // a combine raises every pair that points to its node
-mod reads; // what the walks read of a session
 mod serve; // one request, served in place
 mod spread; // the walk of a write
 mod turns; // the requests of a list, each in its turn

@@ -3,7 +3,7 @@ ghost use Rattle.std.specs.Prelude.{◌≡◌, ◌+◌, ◌<◌, ◌≤◌};
 ghost use Rattle.tree.specs.Parents.{Grown};
 ghost use Rattle.tree.specs.Turns as turns;
 ghost use Rattle.walk.specs.inner.Links.{Found, Going, Linked, neighbour_at};
-ghost use Rattle.aggregate.specs.inner.Rounds.{Begun, Goes, left_of, MayGo};
+ghost use Rattle.aggregate.specs.inner.Rounds.{At, Begun, Goes, left_of, MayGo};
 
 use tree::Tree;
 
@@ -35,7 +35,7 @@ impl Links {
 
     // The neighbours of u, in turn: its parent, then its children.
     pub fn neighbours<'a>(&'a self, tree: &'a Tree, u: usize) -> Neighbours<'a>
-        requires { (u < tree.now.count) × ((tree.now.count ≤ 256) × Linked tree.now.count tree.now.parents self.now.first self.now.next) }
+        requires { At self.now tree.now u }
         ensures { Begun self.now tree.now u result }
     {
         Neighbours {
@@ -48,7 +48,7 @@ impl Links {
 
     // The place of u's first neighbour among its candidates.
     fn first(&self, tree: &Tree, u: usize) -> usize
-        requires { (u < tree.now.count) × ((tree.now.count ≤ 256) × Linked tree.now.count tree.now.parents self.now.first self.now.next) }
+        requires { At self.now tree.now u }
         ensures { Found tree.now.count (neighbour_at tree.now.count tree.now.parents u) 0 result }
     {
         if u == 0 {

@@ -5,6 +5,7 @@ ghost use Rattle.aggregate.specs.Told.{told_outcome, told_served};
 ghost use Rattle.aggregate.specs.inner.Acts.{request_of, served_as, Servable};
 
 use crate::act::Act;
+use crate::ground::Ground;
 use crate::links::Links;
 use crate::{Outcome, Served, act, apply, judge};
 use refusal::Refusal;
@@ -46,7 +47,7 @@ pub fn request(
     judge::early(session, x)?;
     let held = session.values[x];
     act::begin(act, session, x);
-    let answer = act::walk(act, session, links, trace, x);
+    let answer = act::walk(act, Ground { session, links }, trace, x);
     let Ok(next) = trace.log(log, place) else {
         session.values[x] = held;
         return Err(Refusal::NoRoom);

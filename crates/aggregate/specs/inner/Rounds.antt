@@ -1,10 +1,16 @@
 -- The way round a node, from neighbour to neighbour: how it begins, when it may go on, and what a call gives.
-use Rattle.std.specs.Prelude.{◌≡◌, Option, MatchOption, ℕ, ◌-◌}
+use Rattle.std.specs.Prelude.{◌≡◌, Option, MatchOption, ℕ, ◌-◌, ◌<◌, ◌≤◌}
 use Rattle.std.specs.Iterator.{Count, at_most}
 use Rattle.tree.specs.declared.Tree.{Tree}
-use Rattle.walk.specs.inner.Links.{Found, neighbour_at, Going, Turned}
+use Rattle.walk.specs.inner.Links.{Found, Linked, neighbour_at, Going, Turned}
 use Rattle.aggregate.specs.declared.links.Links.{Links}
 use Rattle.aggregate.specs.declared.links.Neighbours.{Neighbours}
+
+-- u is a node of a tree, and these are the tree's links
+pub record At (links : Links) (tree : Tree) (u : ℕ) : Type 0 where
+  pub room : tree.count ≤ 256
+  pub inside : u < tree.count
+  pub linked : Linked tree.count tree.parents links.first links.next
 
 -- s goes round u, by these links of this tree
 pub record Round (links : Links) (tree : Tree) (u : ℕ) (s : Neighbours) : Type 0 where

@@ -13,4 +13,4 @@ abbrev pub decreases-visit : goal.decreases-visit
 decreases-visit l = 2 * l.left + 1
 
 abbrev pub invariant-ask-loop-w : goal.invariant-ask-loop-w
-invariant-ask-loop-w l = Round l.links l.session.tree l.u l.w-iterator × Partly (view l.session) (l.left - 1) l.u l.from l.w-iterator.place l.initial.trace l.sum l.trace
+invariant-ask-loop-w l = Round l.ground.links.now l.ground.session.now.tree l.u l.w-iterator × Partly (view l.ground.session.now) (l.left - 1) l.u l.from l.w-iterator.place l.initial.trace l.sum l.trace

@@ -13,4 +13,4 @@ abbrev pub decreases-tell : goal.decreases-tell
 decreases-tell l = 2 * l.left + 1
 
 abbrev pub invariant-spread-loop-w : goal.invariant-spread-loop-w
-invariant-spread-loop-w l = Round l.links l.session.tree l.u l.w-iterator × Partly (view l.session) (l.left - 1) l.u l.from l.told l.w-iterator.place l.initial.trace l.sum l.trace
+invariant-spread-loop-w l = Round l.ground.links.now l.ground.session.now.tree l.u l.w-iterator × Partly (view l.ground.session.now) (l.left - 1) l.u l.from l.told l.w-iterator.place l.initial.trace l.sum l.trace

@@ -6,7 +6,7 @@ use Rattle.walk.proofs.Starting.{passing, spreading_first}
 use Rattle.aggregate.proofs.spread.from.Goals as goal
 
 pub returns-then-is_silent : goal.returns-then-is_silent
-returns-then-is_silent c = rw (silent_write (view c.args.session.now) c.args.x c.requires.inside (c.is_silent.ensures c.if-is_silent.true), pushed_all-none)
+returns-then-is_silent c = rw (silent_write (view c.args.ground.session.now) c.args.x c.requires.inside (c.is_silent.ensures c.if-is_silent.true), pushed_all-none)
 
 pub of-later-requires : goal.of-later-requires
 of-later-requires c = passing c.requires.steady c.requires.inside

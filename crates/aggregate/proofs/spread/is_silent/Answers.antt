@@ -14,8 +14,9 @@ loop-w-init c =
 pub lease-requires : goal.lease-requires
 lease-requires c =
     let i = c.loop-w.invariant in
-    let w = beside_inside c.requires.0 (turned i.0 c.in-Some.ensures.steps) in
-    (omega (arith, c.requires), omega (arith, c.requires.1.0, w))
+    let r = c.requires in
+    let w = beside_inside r.inside (turned i.0 c.in-Some.ensures.steps) in
+    (omega (arith, r.inside, r.room), omega (arith, r.room, w))
 
 pub loop-w-preserved : goal.loop-w-preserved
 loop-w-preserved c =

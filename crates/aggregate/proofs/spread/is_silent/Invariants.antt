@@ -5,4 +5,4 @@ use Rattle.aggregate.specs.inner.Rounds.{Round}
 use Rattle.aggregate.proofs.spread.is_silent.Given as goal
 
 abbrev pub invariant-loop-w : goal.invariant-loop-w
-invariant-loop-w l = Round l.links l.session.tree l.x l.w-iterator × SilentUpTo l.session.tree.count l.session.tree.parents (lease_of l.session) l.x l.w-iterator.place
+invariant-loop-w l = Round l.ground.links.now l.ground.session.now.tree l.x l.w-iterator × SilentUpTo l.ground.session.now.tree.count l.ground.session.now.tree.parents (lease_of l.ground.session.now) l.x l.w-iterator.place
