@@ -17,7 +17,7 @@ returns-then-out-bytes c = too_short _ _ (sym c.in_rule.ensures ∙ c.if-not-in_
 pub parents-requires : goal.parents-requires
 parents-requires c =
     let r = ready _ _ (sym c.in_rule.ensures ∙ c.if-not-in_rule.false) _ c.from-count.ensures _ c.table_size-bytes.ensures
-            c.if-out-bytes.false _ _ (c.fill.ensures.after (λ y e. e)) _ c.from.ensures c.put.ensures.1 in
+    c.if-out-bytes.false _ _ (c.fill.ensures.after (λ y e. e)) _ c.from.ensures c.put.ensures.1 in
     rw c.from-count.ensures at r
 
 pub returns : goal.returns
