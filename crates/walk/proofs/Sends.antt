@@ -34,7 +34,7 @@ use Rattle.walk.proofs.Split.{split}
 use Rattle.walk.proofs.Reaching.{range_wide, before_in, carried_in}
 use Rattle.walk.proofs.Coming.{come_on}
 
--- ---- what u, told z by v, sends to w; l is what `reads::lease` returned
+-- ---- what u, told z by v, sends to w; l is what `Ground::lease` returned
 
 abbrev sends_to : View → ℕ → ℕ → ℕ → ℤ → ℕ → List Message
 sends_to q f u v z w = sends sum q (other q.parents u v w) (q.lease u w) (spread sum q f) u v z w

@@ -24,7 +24,7 @@ use Rattle.walk.proofs.Finding.{found_same}
 use Rattle.walk.proofs.Neighbours.{beside_inside}
 use Rattle.walk.proofs.Pushing.{pushed_all-none, pushed_all-append, pushed_all-asked}
 
--- ---- a step by its ways; l is what `reads::lease` returned
+-- ---- a step by its ways; l is what `Ground::lease` returned
 
 -- what u, come from v, adds to acc for w
 abbrev step : View → (ℕ → ℕ → Said) → ℕ → ℕ → ℕ → Said → Said
