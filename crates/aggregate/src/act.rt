@@ -14,6 +14,7 @@ use trace::Trace;
 
 // A request without its node, which any number may stand for. Three steps match on it: it has two
 // cases, both known, and a trait or closures in its place would have each step twice, with the same laws.
+// Node and act are two: a struct of both would be taken apart again in each step.
 #[derive(Clone, Copy)]
 pub enum Act {
     Combine,

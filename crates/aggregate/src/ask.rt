@@ -6,7 +6,7 @@ use crate::ground::Ground;
 use messages::Message;
 use trace::Trace;
 
-// u, come from a neighbour or from nowhere, asks those of its other neighbours in turn from which it
+// u, come from a neighbour or from nowhere (itself, as the definition has it), asks those of its other neighbours in turn from which it
 // holds no lease, and answers the sum.
 #[cycle(ask_visit)]
 pub fn ask(ground: Ground<'_>, trace: &mut Trace, u: usize, from: usize, left: usize) -> i64

@@ -6,7 +6,9 @@ ghost use Rattle.aggregate.specs.inner.Rounds.{At, Begun};
 use crate::links::{Links, Neighbours};
 use session::Session;
 
-// A session and its links, both lent: a walk hands them on as they are.
+// A session and its links, both lent: a walk hands them on as they are. That the links are those of the
+// session's tree is no invariant here: the laws of a walk are about a view, and have it as a premise. Nodes
+// below 256 are asked for as such; a type for them would be made and taken apart at every call.
 #[derive(Clone, Copy)]
 pub struct Ground<'a> {
     pub session: &'a Session,

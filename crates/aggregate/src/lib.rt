@@ -29,7 +29,8 @@ use refusal::Refusal;
 use requests::Request;
 use session::Session;
 
-// What a request answers: the answer (0 for a write), its messages and the next log place.
+// What a request answers: the answer (0 for a write, as document 01 says), its messages and the next log
+// place.
 #[repr(C)]
 #[derive(Clone, Copy, Debug, PartialEq, Eq)]
 pub struct Outcome {

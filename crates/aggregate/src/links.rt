@@ -7,8 +7,8 @@ ghost use Rattle.aggregate.specs.inner.Rounds.{At, Begun, Goes, left_of, MayGo};
 
 use tree::Tree;
 
-// Each node's first child, and the next child of its parent; the tree's count for none. Arrays of
-// numbers, since there is no heap and memory is fixed. They are lent beside the session and not held
+// Each node's first child, and the next child of its parent; the tree's count for none, which is where
+// `turn` ends. Arrays of numbers, since there is no heap and memory is fixed. They are lent beside the session and not held
 // with it: a request writes the session while the links stay. `Ground` has both, for a walk.
 #[derive(Clone, Copy)]
 pub struct Links {

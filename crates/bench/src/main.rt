@@ -27,7 +27,8 @@ fn main(rt: HostRuntime) -> io::Result<()> {
     Ok(())
 }
 
-// Does the job with this head, and answers whether its table could be read.
+// Does the job with this head, and answers whether its table could be read. `cases` has this too, of its
+// cases: programs share no crate.
 fn one(rt: &impl Print, input: &mut impl Read, head: Head) -> io::Result<bool> {
     let mut space = [0u8; 256];
     let Some(table) = space.get_mut(..head.size) else {

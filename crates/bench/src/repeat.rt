@@ -37,7 +37,8 @@ impl From<u8> for Call {
     }
 }
 
-// A sum of what came of a call that was made so many times.
+// A sum of what came of a call that was made so many times. Three functions match on the call; a table of
+// closures for seven calls would be no shorter.
 pub fn sum(call: Call, times: u32, fresh: Session, log: &mut [u8]) -> u32 {
     let x = usize::from(fresh.tree.count.saturating_sub(1));
     let session = before(call, fresh, x, log);

@@ -33,7 +33,8 @@ fn main(rt: HostRuntime) -> io::Result<()> {
     Ok(())
 }
 
-// Runs the case with this head, and answers whether its bytes could be read.
+// Runs the case with this head, and answers whether its bytes could be read. `bench` has this too, of its
+// jobs: programs share no crate.
 fn one(rt: &impl Print, input: &mut impl Read, head: Head) -> io::Result<bool> {
     let mut space = [0u8; 65600];
     let Some(bytes) = space.get_mut(..head.size) else {

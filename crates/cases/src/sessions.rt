@@ -52,7 +52,8 @@ pub fn unsound(
     println!(rt)
 }
 
-// A session that is to be replaced.
+// A session that is to be replaced. It is written out: where `Session::fresh` refuses, a session would be
+// needed again.
 pub fn other() -> Session {
     let none = Pairs {
         lease: [0; 256],

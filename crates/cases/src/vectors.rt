@@ -15,6 +15,8 @@ pub fn serve(rt: &impl Print, table: u64, logs: u64, bytes: &[u8]) -> io::Result
     }
 }
 
+// Prints what `rww` prints, and the logs where the case says so by a number. The two programs share no
+// crate: one reads files, one cases, and the lines between which the logs stand are few.
 fn loaded(rt: &impl Print, table: &[u8], logs: bool, list: &[u8]) -> io::Result<()> {
     let session = match sessions::other().load(table) {
         Ok(session) => session,

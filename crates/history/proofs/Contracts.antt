@@ -2,7 +2,7 @@
 use mathlib.Core.Path.{sym, ap, subst}
 use Rattle.session.specs.Told.{Started}
 use Rattle.history.specs.History.{result, Fresh, loaded, started}
-use Rattle.history.specs.Promises.{CombineContract, WriteContract, RunContract, LoadContract, FreshContract}
+use Rattle.history.specs.Promises.{CombineContract, WriteContract, RequestContract, RunContract, LoadContract, FreshContract}
 
 pub combine_contract : CombineContract
 unfolding result
@@ -11,6 +11,9 @@ combine_contract κ s s' x x' log log' place place' served h = rw (h.0, h.1)
 pub write_contract : WriteContract
 unfolding result
 write_contract κ s s' x x' value value' log log' place place' served h small = rw (h.0, h.1)
+
+pub request_contract : RequestContract
+request_contract κ s s' r r' log log' place place' answer h = rw (h.0, h.1)
 
 pub run_contract : RunContract
 unfolding result

@@ -18,10 +18,12 @@ use Rattle.mechanism.specs.Pairwise.{about, Pair}
 use Rattle.session.proofs.Session.load.Reads as load_contract
 use Rattle.session.proofs.Session.fresh.Reads as fresh_contract
 use Rattle.aggregate.specs.Told.{told_served, told_ran}
+use Rattle.aggregate.specs.Serving.{served_of, log_of}
 use Rattle.aggregate.specs.declared.Served.{Served}
 use Rattle.aggregate.specs.declared.Ran.{Ran}
 use Rattle.aggregate.proofs.combine.Reads as combine_contract
 use Rattle.aggregate.proofs.write.Reads as write_contract
+use Rattle.aggregate.proofs.request.Reads as request_contract
 use Rattle.aggregate.proofs.run.Reads as run_contract
 use Rattle.history.specs.History.{Call, combine, write, run, of_request, of_list, result, from_place, lent_places, lent_log, Refused, refused_with, logged_by, History, session_after, accepted_in, answers_in, logged_in, Fresh, Good, last_written, NoWrite, own_of, all_pairs, rounds_of, RunsRounds}
 
@@ -38,6 +40,12 @@ abbrev pub WriteContract : Type 0
 WriteContract = (κ : _) (session session' : Session) (x x' : ℕ) (value value' : ℤ) (log log' : _) (place place' : ℕ) (answer : Result Served Refusal)
     → write_contract.Post κ (session, (x, (value, (log, (place, tt))))) answer (session', (x', (value', (log', (place', tt))))) → (small : within 32 value ≡ true)
     → result session (write x value small log.now place) ≡ of_request (Write x value) (told_served session answer) log'.now
+
+-- What comes of a call of `request` is what comes of the combine or the write that it is.
+abbrev pub RequestContract : Type 0
+RequestContract = (κ : _) (session session' : Session) (r r' : Request) (log log' : _) (place place' : ℕ) (answer : Result Served Refusal)
+    → request_contract.Post κ (session, (r, (log, (place, tt)))) answer (session', (r', (log', (place', tt))))
+    → of_request r (served_of session r (length log.now) place) (log_of session r log.now place) ≡ of_request r (told_served session answer) log'.now
 
 -- What comes of a call of `run` is what the contract of `run` allows.
 abbrev pub RunContract : Type 0

@@ -6,7 +6,8 @@ use std::rt::Files;
 use std::{fs, io};
 
 // Reads as much of a file as there is room for, and answers how many bytes that are. A file that
-// cannot be opened has none, and one that cannot be read on ends there.
+// cannot be opened has none, and one that cannot be read on ends there. The room is its caller's, since
+// there is no heap.
 pub fn read(files: &impl Files, name: &str, room: &mut [u8]) -> usize
     ensures bound { result ≤ length room.new }
     ensures prefix { result ≡ length (take result room.new) }
