@@ -1,7 +1,10 @@
 -- What comes of a call is what the contract of its function allows: `Post` of its `Reads`, the contract as the source states it.
-use mathlib.Core.Path.{sym, ap, subst}
+use mathlib.Core.Path.{sym, ap, ap₂, subst, ◌∙◌}
+use Rattle.std.specs.Prelude.{length}
+use Rattle.requests.specs.declared.Request.{Request}
 use Rattle.session.specs.Told.{Started}
-use Rattle.history.specs.History.{result, Fresh, loaded, started}
+use Rattle.aggregate.specs.Serving.{served_of, log_of}
+use Rattle.history.specs.History.{Result, of_request, result, Fresh, loaded, started}
 use Rattle.history.specs.Promises.{CombineContract, WriteContract, RequestContract, RunContract, LoadContract, FreshContract}
 
 pub combine_contract : CombineContract
@@ -13,7 +16,14 @@ unfolding result
 write_contract κ s s' x x' value value' log log' place place' served h small = rw (h.0, h.1)
 
 pub request_contract : RequestContract
-request_contract κ s s' r r' log log' place place' answer h = rw (h.0, h.1)
+unfolding result
+request_contract κ s s' r r' log log' place place' answer h =
+    let f = sym (ap₂ (of_request r) h.0 h.1) in
+    (λ x e. ap came (sym e) ∙ f, λ x value small e. ap came (sym e) ∙ f)
+  where
+    -- what comes of a request
+    came : Request → Result
+    came q = of_request q (served_of s q (length log.now) place) (log_of s q log.now place)
 
 pub run_contract : RunContract
 unfolding result

@@ -18,7 +18,6 @@ use Rattle.mechanism.specs.Pairwise.{about, Pair}
 use Rattle.session.proofs.Session.load.Reads as load_contract
 use Rattle.session.proofs.Session.fresh.Reads as fresh_contract
 use Rattle.aggregate.specs.Told.{told_served, told_ran}
-use Rattle.aggregate.specs.Serving.{served_of, log_of}
 use Rattle.aggregate.specs.declared.Served.{Served}
 use Rattle.aggregate.specs.declared.Ran.{Ran}
 use Rattle.aggregate.proofs.combine.Reads as combine_contract
@@ -41,11 +40,12 @@ WriteContract = (κ : _) (session session' : Session) (x x' : ℕ) (value value'
     → write_contract.Post κ (session, (x, (value, (log, (place, tt))))) answer (session', (x', (value', (log', (place', tt))))) → (small : within 32 value ≡ true)
     → result session (write x value small log.now place) ≡ of_request (Write x value) (told_served session answer) log'.now
 
--- What comes of a call of `request` is what comes of the combine or the write that it is.
+-- What the contract of `request` allows is what comes of the call of `combine` or of `write` that the request is.
 abbrev pub RequestContract : Type 0
 RequestContract = (κ : _) (session session' : Session) (r r' : Request) (log log' : _) (place place' : ℕ) (answer : Result Served Refusal)
     → request_contract.Post κ (session, (r, (log, (place, tt)))) answer (session', (r', (log', (place', tt))))
-    → of_request r (served_of session r (length log.now) place) (log_of session r log.now place) ≡ of_request r (told_served session answer) log'.now
+    → ((x : ℕ) → r ≡ Combine x → result session (combine x log.now place) ≡ of_request r (told_served session answer) log'.now)
+    × ((x : ℕ) (value : ℤ) (small : within 32 value ≡ true) → r ≡ Write x value → result session (write x value small log.now place) ≡ of_request r (told_served session answer) log'.now)
 
 -- What comes of a call of `run` is what the contract of `run` allows.
 abbrev pub RunContract : Type 0

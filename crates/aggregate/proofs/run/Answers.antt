@@ -1,6 +1,6 @@
 -- `run` meets its contract: a list that is not refused as a whole is run, request by request.
 use mathlib.Core.Path.{◌≡◌, refl, sym, ◌∙◌}
-use mathlib.Core.Bool.{true}
+use mathlib.Core.Bool.{true, false}
 use lib.ListN.{length}
 use Prim.Native.Nat.{◌≤◌}
 use native.Mathlib.Omega.{arith}
@@ -31,7 +31,8 @@ returns-then-answers-judged c =
 
 pub returns-then-not-is_sound : goal.returns-then-not-is_sound
 returns-then-not-is_sound c =
-    ends_unsound c.args.session c.args.list.now c.args.answers.now c.args.log.now c.args.place _ c.in_ok-judged.ensures refl c.if-answers-judged.false (sym c.is_sound.ensures ∙ c.if-not-is_sound.true)
+    let tested : c.is_sound.result ≡ false = search rules in
+    ends_unsound c.args.session c.args.list.now c.args.answers.now c.args.log.now c.args.place _ c.in_ok-judged.ensures refl c.if-answers-judged.false (sym c.is_sound.ensures ∙ tested)
 
 pub whole-requires : goal.whole-requires
 whole-requires c = begins (goal.at.whole-requires c).After-is_sound (search rules)

@@ -1,6 +1,6 @@
 -- `serve::whole` meets its contract: 6 where the session is unsound, and else its tree is linked and the request served.
 use mathlib.Core.Path.{◌≡◌, sym, ◌∙◌}
-use mathlib.Core.Bool.{true}
+use mathlib.Core.Bool.{true, false}
 use borrow.Author.Rules.{rules}
 use lib.ListN.{length}
 use Rattle.std.proofs.lemmas.Result.{err_from_is_err_and}
@@ -19,7 +19,8 @@ holds p tested = (sound_exactly 2 p.args.session).0 (sym p.is_sound.ensures ∙ 
 
 pub returns-then-not-is_sound : goal.returns-then-not-is_sound
 returns-then-not-is_sound c =
-    ends_unsound c.args.session (request_of c.args.x c.args.act) c.args.log.now c.args.place (sym c.is_sound.ensures ∙ c.if-not-is_sound.true)
+    let tested : c.is_sound.result ≡ false = search rules in
+    ends_unsound c.args.session (request_of c.args.x c.args.act) c.args.log.now c.args.place (sym c.is_sound.ensures ∙ tested)
 
 pub of-links-requires : goal.of-links-requires
 of-links-requires c = let r = (holds (goal.at.of-links-requires c).After-is_sound (search rules)).tree_in_rule in (r.some, (r.few, r.grown))
