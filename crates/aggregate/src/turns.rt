@@ -13,7 +13,9 @@ use session::Session;
 use trace::Trace;
 
 // The requests of an accepted list to a sound session, up to the first that is refused. The session's
-// tree is linked once, and what a request needs besides serves one after the other.
+// tree is linked once, and what a request needs besides serves one after the other. No goal here needs
+// `never_zero`: by it a branch that is never taken proves, and so the edit `goes_on_after_a_refusal`, which
+// adds a branch, is refused for what it does there.
 #[tactic(auto, using(crate::proofs::Stopping::never_zero))]
 pub fn whole(
     mut session: Session,
