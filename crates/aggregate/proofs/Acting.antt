@@ -21,7 +21,7 @@ use Rattle.mechanism.proofs.Valued.{valued_sound, valued_typed}
 use Rattle.walk.proofs.Fitting.{sound_fit}
 use Rattle.walk.proofs.Starting.{sound_steady}
 use Rattle.aggregate.specs.Serving.{refused_outcome, refused}
-use Rattle.aggregate.specs.inner.Afters.{paired, Climbing}
+use Rattle.aggregate.specs.inner.Afters.{paired, Raisable}
 use Rattle.aggregate.specs.inner.Acts.{request_of, served_as, Servable, begun, begun_of, walked, Walkable, settled_of, counted}
 use Rattle.aggregate.specs.Told.{Outcome, Served}
 use Rattle.aggregate.specs.declared.act.Act.{Act}
@@ -74,7 +74,7 @@ module _ (s : Session) (x : ℕ) (a : Act) (ms : List Message) where
   hit_of = paired (begun_of s x a) (applied ms (links_of (begun_of s x a)))
 
   -- as many numbers as before
-  pub climbing : Typed s → Sound 2 s → x < s.tree.count → Climbing hit_of x
+  pub climbing : Typed s → Sound 2 s → x < s.tree.count → Raisable hit_of x
   climbing t i h =
       let w = wide_applied ms (links_of s) (wide t) in
       record { room = i.tree_in_rule.few; grown = i.tree_in_rule.grown; inside = h; up_long = w.up_long.leases; down_long = w.down_long.leases }

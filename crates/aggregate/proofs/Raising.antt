@@ -10,7 +10,7 @@ use lib.Dec.{leb, ltb}
 use lib.ListN.{get_or, set, length, length-set}
 use lib.Seq.{get_or-set_same, get_or-set_other}
 use borrow.Author.Tests.{lt-ltb, le-ltb, le-leb, lt-leb}
-use Rattle.tree.specs.Parents.{parent, Grown}
+use Rattle.tree.specs.Parents.{parent}
 use Rattle.tree.specs.Sides.{below, points_to}
 use Rattle.tree.proofs.Cases.{order, lt_or_le}
 use Rattle.mechanism.specs.Applying.{each, up_raised, down_raised, renumbered, raised}
@@ -18,10 +18,6 @@ use Rattle.session.specs.declared.Session.{Session}
 use Rattle.mechanism.specs.Requests.{links_of}
 use Rattle.aggregate.specs.inner.Afters.{Climbing, paired}
 use Rattle.walk.proofs.Ways.{Ahead, ahead_none, on_way, off_way, ahead_on, ahead_off}
-
--- the session with these lease numbers
-abbrev numbered : Session → List ℕ → List ℕ → Session
-numbered s up down = record { tree = s.tree; values = s.values; up = renumbered up s.up; down = renumbered down s.down; accepted = s.accepted }
 
 -- ---- one list of numbers
 
@@ -71,81 +67,79 @@ module _ (points : ℕ → Bool) (n b : ℕ) (l : List ℕ) where
               (λ o. others i (λ e. omega arith));
         }
 
--- the tests of an entry, as sides
-module _ (ps : List ℕ) (n x : ℕ) (grown : Grown ps n) where
+-- ---- the loop
+
+-- what the loop has done of the nodes from i on; the next node on the way from x is at
+pub record Climbed (ps : List ℕ) (n x : ℕ) (up₀ down₀ up down : List ℕ) (at i : ℕ) : Type 0 where
+  pub some : 0 < i
+  pub few : i ≤ n
+  pub ahead : Ahead ps x at i
+  pub high : Raised (λ j. not (below ps j x)) n 2 up₀ i up
+  pub low : Raised (λ j. below ps j x) n 2 down₀ i down
+
+module _ {ps : List ℕ} {n x : ℕ} {up₀ down₀ : List ℕ} (o : Climbing ps n x up₀ down₀) where
+  pub climbed_none : Climbed ps n x up₀ down₀ up₀ down₀ x n
+  climbed_none = record { some = omega (arith, o.inside); few = omega arith; ahead = ahead_none o.inside; high = raised_none _ n 2 up₀; low = raised_none _ n 2 down₀ }
+
+  module _ {up down : List ℕ} {at k i : ℕ} (before : Climbed ps n x up₀ down₀ up down at k) (next : k ≡ suc i) (some : 0 < i) where
+    c : Climbed ps n x up₀ down₀ up down at (suc i)
+    c = rw next at before
+
+    -- x is below the node that the way is at
+    pub climbed_on : i ≡ at → Climbed ps n x up₀ down₀ up (set down i 2) (parent ps i) i
+    climbed_on e =
+        let inside : i < n = omega (arith, c.few) in
+        let b = on_way o.grown inside c.ahead e in
+        record {
+          some = some;
+          few = omega (arith, c.few);
+          ahead = ahead_on o.grown inside c.ahead some e;
+          high = raised_not _ n 2 up₀ i up c.high (ap not b);
+          low = raised_one _ n 2 down₀ i down c.low b (omega (arith, c.few)) (omega (arith, c.few, o.room, o.down_long));
+        }
+
+    -- and below no other
+    pub climbed_off : i ≢ at → Climbed ps n x up₀ down₀ (set up i 2) down at i
+    climbed_off d =
+        let inside : i < n = omega (arith, c.few) in
+        let b = off_way o.grown inside c.ahead d in
+        record {
+          some = some;
+          few = omega (arith, c.few);
+          ahead = ahead_off o.grown inside c.ahead d;
+          high = raised_one _ n 2 up₀ i up c.high (ap not b) (omega (arith, c.few)) (omega (arith, c.few, o.room, o.up_long));
+          low = raised_not _ n 2 down₀ i down c.low b;
+        }
+
+  -- the tests of an entry, as sides
   up_points : (i b a : ℕ) → cond ((ltb 0 i && ltb i n) && not (below ps i x)) b a ≡ cond ((ltb 0 i && ltb i n) && points_to ps i (parent ps i) x) b a
   up_points i b a = lt_or_le i n
-      (λ h. lt_or_le 0 i (λ z. rw (le-ltb i (parent ps i) (omega (arith, grown i z h)))) (λ z. rw (le-ltb 0 i z)))
+      (λ h. lt_or_le 0 i (λ z. rw (le-ltb i (parent ps i) (omega (arith, o.grown i z h)))) (λ z. rw (le-ltb 0 i z)))
       (λ h. rw (le-ltb i n h, and-false (ltb 0 i)))
 
   down_points : (i b a : ℕ) → cond ((ltb 0 i && ltb i n) && below ps i x) b a ≡ cond ((ltb 0 i && ltb i n) && points_to ps (parent ps i) i x) b a
   down_points i b a = lt_or_le i n
-      (λ h. lt_or_le 0 i (λ z. rw (lt-ltb (parent ps i) i (grown i z h))) (λ z. rw (le-ltb 0 i z)))
+      (λ h. lt_or_le 0 i (λ z. rw (lt-ltb (parent ps i) i (o.grown i z h))) (λ z. rw (le-ltb 0 i z)))
       (λ h. rw (le-ltb i n h, and-false (ltb 0 i)))
 
--- ---- the loop
+  pub climbed_all : {up down : List ℕ} {at i : ℕ} → Climbed ps n x up₀ down₀ up down at i → i ≤ 1 → (up ≡ up_raised ps n 2 x up₀) × (down ≡ down_raised ps n 2 x down₀)
+  unfolding up_raised down_raised
+  climbed_all {up} {down} {at} {i} c h =
+      let e : i ≡ 1 = omega (arith, c.some) in
+      let high = rw e at c.high in
+      let low = rw e at c.low in (
+        each_is _ 0 up up₀ high.long (λ j. rw (zero-add j) (high.entry j ∙ up_points j 2 (get_or up₀ j 0))),
+        each_is _ 0 down down₀ low.long (λ j. rw (zero-add j) (low.entry j ∙ down_points j 2 (get_or down₀ j 0))),
+      )
 
--- what the loop has made of the session s for the nodes from i on; the next node on the way from x is at
-pub record Climbed (s : Session) (x : ℕ) (t : Session) (at i : ℕ) : Type 0 where
-  pub some : 0 < i
-  pub few : i ≤ s.tree.count
-  pub ahead : Ahead s.tree.parents x at i
-  pub high : Raised (λ j. not (below s.tree.parents j x)) s.tree.count 2 s.up.lease i t.up.lease
-  pub low : Raised (λ j. below s.tree.parents j x) s.tree.count 2 s.down.lease i t.down.lease
-  pub others : t ≡ numbered s t.up.lease t.down.lease
+-- ---- in a session
 
-module _ {s : Session} {x : ℕ} (o : Climbing s x) where
-  pub climbed_none : Climbed s x s x s.tree.count
-  climbed_none =
-      record {
-        some = omega (arith, o.inside);
-        few = omega arith;
-        ahead = ahead_none o.inside;
-        high = raised_none _ s.tree.count 2 s.up.lease;
-        low = raised_none _ s.tree.count 2 s.down.lease;
-        others = refl;
-      }
+-- the session with these lease numbers
+abbrev numbered : Session → List ℕ → List ℕ → Session
+numbered s up down = record { tree = s.tree; values = s.values; up = renumbered up s.up; down = renumbered down s.down; accepted = s.accepted }
 
-  module _ {t : Session} {at k i : ℕ} (before : Climbed s x t at k) (next : k ≡ suc i) (some : 0 < i) where
-    c : Climbed s x t at (suc i)
-    c = rw next at before
-
-    -- x is below the node that the way is at
-    pub climbed_on : i ≡ at → {p : ℕ} → p ≡ parent t.tree.parents i → {r : Session} → r ≡ numbered t t.up.lease (set t.down.lease i 2) → Climbed s x r p i
-    climbed_on e {p} is {r} f =
-        let inside : i < s.tree.count = omega (arith, c.few) in
-        let b = on_way o.grown inside c.ahead e in
-        rw (f, is ∙ ap (λ (u : Session). parent u.tree.parents i) c.others)
-        (record {
-          some = some;
-          few = omega (arith, c.few);
-          ahead = ahead_on o.grown inside c.ahead some e;
-          high = raised_not _ s.tree.count 2 s.up.lease i t.up.lease c.high (ap not b);
-          low = raised_one _ s.tree.count 2 s.down.lease i t.down.lease c.low b (omega (arith, c.few)) (omega (arith, c.few, o.room, o.down_long));
-          others = ap (λ (u : Session). numbered u t.up.lease (set t.down.lease i 2)) c.others;
-        })
-
-    -- and below no other
-    pub climbed_off : i ≢ at → {r : Session} → r ≡ numbered t (set t.up.lease i 2) t.down.lease → Climbed s x r at i
-    climbed_off d {r} f =
-        let inside : i < s.tree.count = omega (arith, c.few) in
-        let b = off_way o.grown inside c.ahead d in
-        rw f
-        (record {
-          some = some;
-          few = omega (arith, c.few);
-          ahead = ahead_off o.grown inside c.ahead d;
-          high = raised_one _ s.tree.count 2 s.up.lease i t.up.lease c.high (ap not b) (omega (arith, c.few)) (omega (arith, c.few, o.room, o.up_long));
-          low = raised_not _ s.tree.count 2 s.down.lease i t.down.lease c.low b;
-          others = ap (λ (u : Session). numbered u (set t.up.lease i 2) t.down.lease) c.others;
-        })
-
-  pub climbed_all : {t : Session} {at i : ℕ} → Climbed s x t at i → i ≤ 1 → t ≡ paired s (raised s.tree.parents s.tree.count 2 x (links_of s))
-  unfolding raised up_raised down_raised
-  climbed_all {t} {at} {i} l h =
-      let e : i ≡ 1 = omega (arith, l.some) in
-      let high = rw e at l.high in
-      let low = rw e at l.low in
-      let up = each_is _ 0 t.up.lease s.up.lease high.long (λ j. rw (zero-add j) (high.entry j ∙ up_points s.tree.parents s.tree.count x o.grown j 2 (get_or s.up.lease j 0))) in
-      let down = each_is _ 0 t.down.lease s.down.lease low.long (λ j. rw (zero-add j) (low.entry j ∙ down_points s.tree.parents s.tree.count x o.grown j 2 (get_or s.down.lease j 0))) in
-      l.others ∙ ap₂ (numbered s) up down
+-- a session whose numbers are raised is the one with raised pairs
+pub raised_in : (s : Session) (x : ℕ) {up down : List ℕ} → up ≡ up_raised s.tree.parents s.tree.count 2 x s.up.lease → down ≡ down_raised s.tree.parents s.tree.count 2 x s.down.lease
+    → numbered s up down ≡ paired s (raised s.tree.parents s.tree.count 2 x (links_of s))
+unfolding raised
+raised_in s x e f = ap₂ (numbered s) e f

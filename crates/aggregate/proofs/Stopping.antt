@@ -23,6 +23,9 @@ use Rattle.mechanism.specs.Refusals as refusals
 use Rattle.aggregate.specs.Serving.{served_of}
 use Rattle.aggregate.specs.Running.{Running, start, done, Whole, unread, few_places, unsound, starts, Serves, all_done, stopped, accepted, OfWhole, OfStop}
 use Rattle.aggregate.specs.Promises.{WholeNumbers, StopNumbers}
+use Rattle.refusal.specs.Numbers.{number}
+use Rattle.refusal.specs.declared.Refusal.{Refusal}
+use Rattle.refusal.proofs.Numbers.{numbers_within}
 use Rattle.aggregate.proofs.Verdicts.{refused_exactly, never_eleven}
 use Rattle.aggregate.proofs.Wholly.{runnable_by}
 use Rattle.aggregate.proofs.Listing.{whole_exactly, one_by_one}
@@ -66,3 +69,7 @@ stopped_with n o' rs o sized typed holds some (accepted r l q e rest) =
 pub stop_numbers : StopNumbers
 stop_numbers s list answers log place n typed begun e some =
     stopped_with n _ (requests_of list) (start s answers log place) (read_sized list) typed (runnable_by s list (length answers) begun).holds some (rw e at (one_by_one s list answers log place begun))
+
+-- what bears the number of a refusal is not 0
+pub never_zero : {A : Type 0} (r : Refusal) {n : ℕ} → n ≡ number r → n ≡ 0 → A
+never_zero r e z = absurd (omega (arith, e, z, (numbers_within r).0))

@@ -3,10 +3,11 @@ ghost use Rattle.std.specs.Prelude.{◌≡◌, ◌<◌, length};
 ghost use Rattle.requests.specs.Lists.{Small};
 ghost use Rattle.mechanism.specs.Views.{view};
 ghost use Rattle.trace.specs.inner.Traces as traces;
-ghost use Rattle.aggregate.specs.inner.Afters.{Climbing};
+ghost use Rattle.aggregate.specs.inner.Afters.{Raisable};
 ghost use Rattle.aggregate.specs.inner.Acts as spec;
 
 use crate::ground::Ground;
+use crate::later::Later;
 use crate::{ask, raise, spread};
 use requests::Request;
 use session::Session;
@@ -42,8 +43,8 @@ pub fn begin(act: Act, session: &mut Session, x: usize)
     }
 }
 
-// The walk, from an empty trace, and its sum.
-pub fn walk(act: Act, ground: Ground<'_>, trace: &mut Trace, x: usize) -> i64
+// The walk, from an empty trace, and its sum. `later` is room for what a write lays by.
+pub fn walk(act: Act, ground: Ground<'_>, later: &mut Later, trace: &mut Trace, x: usize) -> i64
     requires { spec.Walkable (view ground.session.now) ground.links.now.first ground.links.now.next x }
     ensures { spec.Walked act (view ground.entry.session.now) x result (traces.trace trace.old.numbers 0) trace.new }
 {
@@ -54,7 +55,7 @@ pub fn walk(act: Act, ground: Ground<'_>, trace: &mut Trace, x: usize) -> i64
             ask::ask(ground, trace, x, x, count)
         }
         Act::Write(_) => {
-            spread::from(ground, trace, x);
+            spread::from(ground, later, trace, x);
             0
         }
     }
@@ -62,7 +63,7 @@ pub fn walk(act: Act, ground: Ground<'_>, trace: &mut Trace, x: usize) -> i64
 
 // A combine raises every pair that points to its node.
 pub fn settle(act: Act, session: &mut Session, x: usize)
-    requires { Climbing session.old x }
+    requires { Raisable session.old x }
     ensures { session.new ≡ spec.settled_of session.old x act }
 {
     match act {

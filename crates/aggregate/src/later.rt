@@ -17,26 +17,34 @@ pub struct Later {
 }
 
 impl Later {
-    // For each pair (u,w) what u knows of its neighbours after w, the one towards x left out. A node has
-    // all that its children give when its turn comes, since they are larger. `at` is the next node on the
-    // way from x to the root.
-    pub fn of(session: &Session, x: usize) -> Later
+    // Nothing laid by.
+    pub fn none() -> Later {
+        Later {
+            up: [0; 256],
+            down: [0; 256],
+        }
+    }
+
+    // Lays by for each pair (u,w) what u knows of its neighbours after w, the one towards x left out. A
+    // node has all that its children give when its turn comes, since they are larger. `at` is the next
+    // node on the way from x to the root. What was laid by before is gone: of `up` as many places are
+    // cleared as there are nodes, of `down` each is written before it is read.
+    pub fn lay(&mut self, session: &Session, x: usize)
         requires { Passing (view session.now) x }
-        ensures { Passed (view session.now) x result.up result.down }
+        ensures { Passed (view session.now) x self.new.up self.new.down }
     {
-        let mut up = [0i64; 256];
-        let mut down = [0i64; 256];
+        let count = usize::from(session.tree.count);
+        self.up[..count].fill(0);
         let mut at = x;
-        for i in (1..usize::from(session.tree.count)).rev() {
+        for i in (1..count).rev() {
             let p = usize::from(session.tree.parents[i]);
-            down[i] = up[p];
+            self.down[i] = self.up[p];
             if i == at {
                 at = p;
             } else {
-                up[p] += known(session.up.lease[i], session.up.cache[i]);
+                self.up[p] += known(session.up.lease[i], session.up.cache[i]);
             }
         }
-        Later { up, down }
     }
 
     // What u knows of its neighbours after v.

@@ -14,17 +14,17 @@ use crate::later::{self, Later};
 use messages::Message;
 use trace::Trace;
 
-// The walk of a write at x, whose value is set.
-pub fn from(ground: Ground<'_>, trace: &mut Trace, x: usize)
+// The walk of a write at x, whose value is set. What comes after each neighbour is laid by in `later`.
+pub fn from(ground: Ground<'_>, later: &mut Later, trace: &mut Trace, x: usize)
     requires { Walkable (view ground.session.now) ground.links.now.first ground.links.now.next x }
     ensures { trace.new ≡ traces.pushed_all (write operation.sum (view ground.entry.session.now) x) trace.old }
 {
     if is_silent(ground, x) {
         return;
     }
-    let later = Later::of(ground.session, x);
+    later.lay(ground.session, x);
     let count = usize::from(ground.session.tree.count);
-    spread(ground, &later, trace, x, x, 0, count);
+    spread(ground, later, trace, x, x, 0, count);
 }
 
 // Whether no neighbour of x holds a lease, so that x tells nobody.

@@ -5,6 +5,7 @@ ghost use Rattle.aggregate.specs.Running as spec;
 ghost use Rattle.aggregate.specs.Told.{told_outcome, told_stop};
 ghost use Rattle.aggregate.specs.inner.Turns.{Starting, HasPlace, Addable};
 
+use crate::later::Later;
 use crate::links::Links;
 use crate::{Outcome, Ran, Stop, Totals, act, serve};
 use requests::{Judged, Request};
@@ -12,7 +13,10 @@ use session::Session;
 use trace::Trace;
 
 // The requests of an accepted list to a sound session, up to the first that is refused. The session's
-// tree is linked once, and one trace serves all requests.
+// tree is linked once, and what a request needs besides serves one after the other. No goal here needs
+// `never_zero`: by it a branch that is never taken proves, and so the edit `goes_on_after_a_refusal`, which
+// adds a branch, is refused for what it does there.
+#[tactic(auto, using(crate::proofs::Stopping::never_zero))]
 pub fn whole(
     mut session: Session,
     list: &[u8],
@@ -27,6 +31,7 @@ pub fn whole(
         × (log.new ≡ spec.run_log_of session list.now answers.old log.old place) }
 {
     let links = Links::of(&session.tree);
+    let mut later = Later::none();
     let mut trace = Trace::new();
     let mut at = judged.first;
     let mut totals = Totals {
@@ -45,7 +50,16 @@ pub fn whole(
             };
         };
         let (x, act) = act::of(request);
-        let served = serve::request(&mut session, &links, &mut trace, x, act, log, totals.next);
+        let served = serve::request(
+            &mut session,
+            &links,
+            &mut later,
+            &mut trace,
+            x,
+            act,
+            log,
+            totals.next,
+        );
         match served {
             Ok(outcome) => {
                 let stored = store(answers, totals.answers, request, outcome.answer);

@@ -1,5 +1,6 @@
 // Reading the cases.
-use std::io;
+ghost use Rattle.std.specs.Prelude.{◌≤◌, length};
+
 use std::io::Read;
 
 // What stands before the bytes of a case: its letter, the number of its bytes in 3 bytes, and three
@@ -14,22 +15,45 @@ pub struct Head {
 }
 
 impl Head {
-    pub fn read(input: &mut impl Read) -> io::Result<Head> {
-        let mut first = [0u8; 4];
-        input.read_exact(&mut first)?;
-        let [letter, x, y, z] = first;
-        Ok(Head {
-            letter,
-            size: u32::from_be_bytes([0, x, y, z]) as usize,
-            a: number(input)?,
-            b: number(input)?,
-            c: number(input)?,
+    // That of the next case, if all of it could be read.
+    pub fn read(input: &mut impl Read) -> Option<Head> {
+        let mut head = [0u8; 28];
+        if !full(input, &mut head) {
+            return None;
+        }
+        Some(Head {
+            letter: head[0],
+            size: number(&head, 8, 24) as usize,
+            a: number(&head, 32, 64),
+            b: number(&head, 96, 64),
+            c: number(&head, 160, 64),
         })
     }
 }
 
-fn number(input: &mut impl Read) -> io::Result<u64> {
-    let mut bytes = [0u8; 8];
-    input.read_exact(&mut bytes)?;
-    Ok(u64::from_be_bytes(bytes))
+fn number(head: &[u8], place: usize, width: usize) -> u64 {
+    fields::get(head, place, width).unwrap_or(0)
+}
+
+// Whether all of the bytes could be read.
+pub fn full(input: &mut impl Read, bytes: &mut [u8]) -> bool {
+    fill(input, bytes) == bytes.len()
+}
+
+// Reads until the bytes are full or the input ends, and answers how many bytes were read. A read that fails
+// ends the input there, also one that was interrupted, which `read_exact` would try again.
+fn fill(input: &mut impl Read, bytes: &mut [u8]) -> usize
+    ensures { result ≤ length bytes.new }
+{
+    let mut size = 0;
+    while size < bytes.len() {
+        let Ok(got) = input.read(&mut bytes[size..]) else {
+            return size;
+        };
+        if got == 0 {
+            return size;
+        }
+        size += got;
+    }
+    size
 }

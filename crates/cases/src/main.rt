@@ -23,7 +23,7 @@ use std::io::Read;
 fn main(rt: HostRuntime) -> io::Result<()> {
     let mut input = rt.stdin();
     for _ in 0..1000000 {
-        let Ok(head) = Head::read(&mut input) else {
+        let Some(head) = Head::read(&mut input) else {
             return Ok(());
         };
         if !one(&rt, &mut input, head)? {
@@ -40,7 +40,7 @@ fn one(rt: &impl Print, input: &mut impl Read, head: Head) -> io::Result<bool> {
     let Some(bytes) = space.get_mut(..head.size) else {
         return Ok(false);
     };
-    if input.read_exact(bytes).is_err() {
+    if !input::full(input, bytes) {
         return Ok(false);
     }
     run(rt, head, bytes)?;

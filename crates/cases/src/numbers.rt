@@ -24,12 +24,16 @@ pub fn field(
 }
 
 // What a number stands for in a field of so many bits, as an i64 and as an i32; and the number of
-// the value that it stands for in 64.
+// the value that it stands for in 64, taken as an i32 where it is one.
 pub fn sign(rt: &impl Print, number: u64, width: u64) -> io::Result<()> {
     let bits = width as usize;
     let value = twos::decode(number, bits);
     let value32 = twos::decode32(number, bits);
-    let encoded = twos::encode(number.cast_signed(), bits);
+    let whole = number.cast_signed();
+    let encoded = match i32::try_from(whole) {
+        Ok(short) => twos::encode32(short, bits),
+        Err(_) => twos::encode(whole, bits),
+    };
     println!(rt;
         "sign {number} {width}: {} {} {}",
         Or(value, "misfit"),

@@ -6,8 +6,9 @@ use Prim.Native.Nat.{ℕ, ◌+◌, ◌-◌, ◌*◌, ◌^◌, ◌≤◌, ◌<◌
 use native.Mathlib.Omega.{arith}
 use lib.Dec.{leb}
 use lib.ListN.{length}
-use borrow.Author.Tests.{le-leb, lt-leb, leb-false}
+use borrow.Author.Tests.{le-leb, lt-leb, leb-true, leb-false}
 use Rattle.std.specs.Prelude.{◌⊎◌, Some, Result, Ok, Err}
+use Rattle.std.proofs.Math.Nat.{min-le_right}
 use Rattle.refusal.specs.declared.Refusal.{Refusal}
 use Rattle.refusal.specs.declared.Refusal.TheVariants.{Short}
 use Rattle.refusal.proofs.Numbers.{numbers_apart, ok_no_err}
@@ -27,25 +28,33 @@ use Rattle.messages.proofs.ByKind.{width_at}
 use Rattle.messages.proofs.Coding.{decoded_there, short_or_long}
 use Rattle.messages.proofs.Entries.{entry_short, entry_read}
 
-module _ (s : List ℕ) (place : ℕ) where
-  record_cut : usable_bits (length s) < after s place → record_at s place ≡ Err Short
+-- the width of the kind that was read
+pub width_found : (s : List ℕ) (place n : ℕ) (k : Kind) (w : ℕ) → field_at s place 2 ≡ Ok n → k ≡ kind_at n → w ≡ width_of (number k) → w ≡ width_of (field s place 2)
+width_found s place n k w e f g =
+    let h = found s place 2 n e in
+    g ∙ rw f (width_at n) ∙ ap width_of h.2
+
+-- the place behind the record of a kind that was read is small
+pub behind_kind : (s : List ℕ) (place n w : ℕ) → field_at s place 2 ≡ Ok n → w ≡ width_of (field s place 2) → place + w ≤ 524344
+behind_kind s place n w e f = omega (arith, (found s place 2 n e).1, f, width_bounds (field s place 2), min-le_right (length s) 65536)
+
+module _ (s : List ℕ) (place end : ℕ) (inside : end ≤ usable_bits (length s)) where
+  record_cut : end < after s place → record_at s place end ≡ Err Short
   unfolding record_at
-  record_cut l = rw (lt-leb (after s place) (usable_bits (length s)) l)
+  record_cut l = rw (lt-leb (after s place) end l)
 
   -- the kind's field is cut off
-  pub kind_cut : (r : Refusal) → field_at s place 2 ≡ Err r → record_at s place ≡ Err r
+  pub kind_cut : (r : Refusal) → field_at s place 2 ≡ Err r → record_at s place end ≡ Err r
   kind_cut r e =
       let c = cut_off s place 2 (omega arith) r e in
       record_cut (omega (arith, c.1, width_bounds (field s place 2))) ∙ ap Err (sym c.0)
 
-  -- the width of the kind that was read
-  pub width_found : (n : ℕ) (k : Kind) (w : ℕ) → field_at s place 2 ≡ Ok n → k ≡ kind_at n → w ≡ width_of (number k) → w ≡ width_of (field s place 2)
-  width_found n k w e f g =
-      let h = found s place 2 n e in
-      g ∙ rw f (width_at n) ∙ ap width_of h.2
-
   module _ (w : ℕ) (width : w ≡ width_of (field s place 2)) where
-    pub rest_cut : (r : Refusal) → field_at s place w ≡ Err r → record_at s place ≡ Err r
+    -- the record goes on behind the end
+    pub record_beyond : end < place + w → record_at s place end ≡ Err Short
+    record_beyond l = record_cut (rw (← width) l)
+
+    pub rest_cut : (r : Refusal) → field_at s place w ≡ Err r → record_at s place end ≡ Err r
     rest_cut r e =
         let b = width_bounds (field s place 2) in
         let c = cut_off s place w (omega arith) r e in
@@ -60,37 +69,30 @@ module _ (s : List ℕ) (place : ℕ) where
       pub record_ends : place + w ≤ usable_bits (length s)
       record_ends = (found s place w n e).1
 
-      pub record_found : Ok (decoded (n * 2 ^ (58 - w)), place + w) ≡ record_at s place
+      pub record_found : place + w ≤ end → Ok (decoded (n * 2 ^ (58 - w)), place + w) ≡ record_at s place end
       unfolding record_at
-      record_found =
-          let h = found s place w n e in
-          let l : after s place ≤ usable_bits (length s) = rw (← width) h.1 in
-          rw (h.2, width, le-leb (after s place) (usable_bits (length s)) l, decoded_there s place)
+      record_found h =
+          let f = found s place w n e in
+          let l : after s place ≤ end = rw (← width) h in
+          rw (f.2, width, le-leb (after s place) end l, decoded_there s place)
 
 -- ---- what the reader answers then
 
 module _ (s : List ℕ) (place end : ℕ) (apart : place ≡ end → ⊥) (inside : end ≤ usable_bits (length s)) where
-  pub entry_cut : (r : Refusal) → record_at s place ≡ Err r → entry_at s place end ≡ Err r
+  pub entry_cut : (r : Refusal) → record_at s place end ≡ Err r → entry_at s place end ≡ Err r
   unfolding record_at
-  entry_cut r e = go (leb (after s place) (usable_bits (length s))) refl e
+  entry_cut r e = go (leb (after s place) end) refl e
     where
-      go : (b : Bool) → leb (after s place) (usable_bits (length s)) ≡ b → cond {A = Result (Message × ℕ) Refusal} b (Ok (message_at s place (field s place 2), after s place)) (Err Short) ≡ Err r → entry_at s place end ≡ Err r
+      go : (b : Bool) → leb (after s place) end ≡ b → cond {A = Result (Message × ℕ) Refusal} b (Ok (message_at s place (field s place 2), after s place)) (Err Short) ≡ Err r → entry_at s place end ≡ Err r
       go true p f = absurd (ok_no_err f)
-      go false p f = entry_short s place end apart (omega (arith, leb-false (after s place) (usable_bits (length s)) p)) ∙ ap Err (numbers_apart Short r (ap refusal_in f))
+      go false p f = entry_short s place end apart (omega (arith, leb-false (after s place) end p)) ∙ ap Err (numbers_apart Short r (ap refusal_in f))
 
-  module _ (m : Message) (next : ℕ) (e : record_at s place ≡ Ok (m, next)) where
-    there : (m ≡ message_at s place (field s place 2)) × (next ≡ after s place)
-    unfolding record_at
-    there = go (leb (after s place) (usable_bits (length s))) e
-      where
-        go : (b : Bool) → cond {A = Result (Message × ℕ) Refusal} b (Ok (message_at s place (field s place 2), after s place)) (Err Short) ≡ Ok (m, next) → (m ≡ message_at s place (field s place 2)) × (next ≡ after s place)
-        go true f =
-            let q : (message_at s place (field s place 2), after s place) ≡ (m, next) = cc in
-            (sym (ap (λ (p : Message × ℕ). p.0) q), sym (ap (λ (p : Message × ℕ). p.1) q))
-        go false f = absurd (ok_no_err (sym f))
-
-    pub entry_beyond : end < next → entry_at s place end ≡ Err Short
-    entry_beyond l = entry_short s place end apart (omega (arith, there.1))
-
-    pub entry_there : next ≤ end → entry_at s place end ≡ Ok (Some (m, next))
-    entry_there l = entry_read s place end (field s place 2) refl inside (omega (arith, there.1)) m next there.0 there.1
+  pub entry_there : (there : Message × ℕ) → record_at s place end ≡ Ok there → entry_at s place end ≡ Ok (Some there)
+  unfolding record_at
+  entry_there there e = go (leb (after s place) end) refl e
+    where
+      go : (b : Bool) → leb (after s place) end ≡ b → cond {A = Result (Message × ℕ) Refusal} b (Ok (message_at s place (field s place 2), after s place)) (Err Short) ≡ Ok there → entry_at s place end ≡ Ok (Some there)
+      go true p f =
+          let q : (message_at s place (field s place 2), after s place) ≡ there = cc in
+          entry_read s place end (field s place 2) refl inside (leb-true (after s place) end p) (message_at s place (field s place 2)) (after s place) refl refl ∙ ap (λ (o : Message × ℕ). Ok (Some o)) q
+      go false p f = absurd (ok_no_err (sym f))

@@ -69,7 +69,7 @@ pub fn write(log: &mut [u8], place: usize, message: Message) -> Result<usize, Re
 // The message that stands in the log at place, before end, and the place after it; none where the place
 // is the end. Refusal: 1 fewer bits are left before the end than the record has, the place is past the
 // end, or the end is past the usable log.
-#[tactic(auto, using(crate::proofs::Entries::entry_past, crate::proofs::Entries::entry_end, crate::proofs::Found::entry_cut, crate::proofs::Found::entry_beyond, crate::proofs::Found::entry_there))]
+#[tactic(auto, using(crate::proofs::Entries::entry_past, crate::proofs::Entries::entry_end, crate::proofs::Found::entry_cut, crate::proofs::Found::entry_there))]
 pub fn read(log: &[u8], place: usize, end: usize) -> Result<Option<(Message, usize)>, Refusal>
     ensures { result ≡ entry_at log.now place end }
 {
@@ -79,9 +79,5 @@ pub fn read(log: &[u8], place: usize, end: usize) -> Result<Option<(Message, usi
     if place == end {
         return Ok(None);
     }
-    let (message, next) = record::read(log, place)?;
-    if end < next {
-        return Err(Refusal::Short);
-    }
-    Ok(Some((message, next)))
+    Ok(Some(record::read(log, place, end)?))
 }

@@ -1,5 +1,6 @@
 // A message as a record of bits.
-ghost use Rattle.std.specs.Prelude.{◌≡◌, ℕ, ◌⊎◌, ◌+◌, ◌-◌, ◌*◌, ◌^◌, ◌<◌, Ok};
+ghost use Rattle.std.specs.Prelude.{◌≡◌, ℕ, ◌⊎◌, ◌+◌, ◌-◌, ◌*◌, ◌^◌, ◌<◌, ◌≤◌, length, Ok};
+ghost use Rattle.fields.specs.Usable.{usable_bits};
 ghost use Rattle.messages.specs.Records.{bits_of, head_of};
 ghost use Rattle.messages.specs.Reading.{decoded};
 ghost use Rattle.messages.specs.inner.Kinds as kinds;
@@ -70,13 +71,17 @@ pub fn message(number: u64) -> Message
     }
 }
 
-// The message whose record starts at place, and the place after it. Refusal: 1 the usable log ends
-// before the record does.
+// The message whose record starts at place and ends before end, and the place after it. Refusal: 1 the
+// record does not end before end.
 #[tactic(auto, using(crate::proofs::Found::kind_cut))]
-pub fn read(log: &[u8], place: usize) -> Result<(Message, usize), Refusal>
-    ensures { result ≡ record_at log.now place }
+pub fn read(log: &[u8], place: usize, end: usize) -> Result<(Message, usize), Refusal>
+    requires { end ≤ usable_bits (length log.now) }
+    ensures { result ≡ record_at log.now place end }
 {
     let width = Kind::from(fields::get(log, place, 2)?).width();
+    if end < place + width {
+        return Err(Refusal::Short);
+    }
     let number = fields::get(log, place, width)?;
     Ok((message(padded(width, number)), place + width))
 }

@@ -4,8 +4,9 @@
 // these.
 #![tactic(auto)]
 
-ghost use Rattle.std.specs.Prelude.{◌≡◌};
+ghost use Rattle.std.specs.Prelude.{◌≡◌, Some};
 ghost use Rattle.refusal.specs.Numbers.{Numbers};
+ghost use Rattle.refusal.specs.Sentences.{sentence};
 
 use std::error::Error;
 use std::fmt;
@@ -46,7 +47,10 @@ impl From<Refusal> for u8 {
     }
 }
 
+// The refusal in words.
 impl fmt::Display for Refusal {
+    ghost output = { λ r. Some (sentence r) };
+
     fn fmt<W: fmt::Write>(&self, f: &mut fmt::Formatter<W>) -> fmt::Result {
         f.write_str(match self {
             Refusal::Short => "the bytes end before a field that is due",

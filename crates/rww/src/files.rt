@@ -1,9 +1,9 @@
 // Reading a file.
 ghost use Rattle.std.specs.Prelude.{◌≡◌, ◌≤◌, length, take};
 
+use std::fs;
 use std::io::Read;
 use std::rt::Files;
-use std::{fs, io};
 
 // Reads as much of a file as there is room for, and answers how many bytes that are. A file that
 // cannot be opened has none, and one that cannot be read on ends there. The room is its caller's, since
@@ -12,11 +12,27 @@ pub fn read(files: &impl Files, name: &str, room: &mut [u8]) -> usize
     ensures bound { result ≤ length room.new }
     ensures prefix { result ≡ length (take result room.new) }
 {
-    let size = room.len();
-    let Ok(file) = fs::open(files, name) else {
-        return 0;
-    };
-    let mut left = &mut *room;
-    let _ = io::copy(&mut file.take(size as u64), &mut left);
-    size.saturating_sub(left.len())
+    match fs::open(files, name) {
+        Ok(mut file) => fill(&mut file, room),
+        Err(_) => 0,
+    }
+}
+
+// Reads until there is no more room or the file ends, and answers how many bytes were read. A read that
+// fails ends the file there, also one that was interrupted, which `io::copy` would try again.
+fn fill(file: &mut impl Read, room: &mut [u8]) -> usize
+    ensures bound { result ≤ length room.new }
+    ensures prefix { result ≡ length (take result room.new) }
+{
+    let mut size = 0;
+    while size < room.len() {
+        let Ok(got) = file.read(&mut room[size..]) else {
+            return size;
+        };
+        if got == 0 {
+            return size;
+        }
+        size += got;
+    }
+    size
 }

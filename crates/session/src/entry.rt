@@ -3,30 +3,35 @@ ghost use Rattle.std.specs.Prelude.{◌≡◌, ◌≤◌};
 ghost use Rattle.tree.specs.Ranges.{in_range};
 ghost use Rattle.session.specs.inner.Passes as pass;
 
-use crate::Pairs;
 use crate::pass::{every, none};
 use rule::Rule;
 
 // Whether the entries of all pairs of one direction are within their limits: from child to parent, or
 // from parent to child (down). A closure in place of `down` would need a clause that says what it answers.
-pub fn pairs(count: u16, twice: u32, down: bool, sizes: &[u16; 256], pairs: &Pairs) -> bool
+pub fn pairs<'a>(
+    count: u16,
+    twice: u32,
+    down: bool,
+    sizes: &'a [u16; 256],
+    lease: &'a [u8; 256],
+    cache: &'a [i64; 256],
+    messages: &'a [u32; 256],
+) -> bool
     requires { (1 ≤ count) × (count ≤ 256) }
-    ensures { result ≡ pass.pairs count twice down sizes.now pairs.now.lease pairs.now.cache pairs.now.messages }
+    ensures { result ≡ pass.pairs count twice down sizes.now lease.now cache.now messages.now }
 {
     let n = usize::from(count);
-    let leased = none(&pairs.lease[..1])
-        & every(1, n, |i| pairs.lease[i] <= Rule::BREAK)
-        & none(&pairs.lease[n..]);
-    let counted = none(&pairs.messages[..1])
-        & every(1, n, |i| pairs.messages[i] <= twice)
-        & none(&pairs.messages[n..]);
-    let cached = none(&pairs.cache[..1])
+    let leased = none(&lease[..1]) & every(1, n, |i| lease[i] <= Rule::BREAK) & none(&lease[n..]);
+    let counted = none(&messages[..1])
+        & every(1, n, |i| messages[i] <= twice)
+        & none(&messages[n..]);
+    let cached = none(&cache[..1])
         & every(
             1,
             n,
-            |i| in_range(near_size(count, down, sizes[i]), pairs.cache[i]),
+            |i| in_range(near_size(count, down, sizes[i]), cache[i]),
         )
-        & none(&pairs.cache[n..]);
+        & none(&cache[n..]);
     leased & counted & cached
 }
 

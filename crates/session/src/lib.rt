@@ -73,24 +73,21 @@ impl Session {
     }
 
     // Whether the session is sound.
-    #[tactic(auto, using(crate::proofs::InPasses::node_count))]
     pub fn is_sound(&self) -> bool
         ensures { result ≡ sound 2 self.now }
     {
-        let sizes = self.tree.sizes();
-        // A tree out of rule has zeros for sizes; in any other the root has itself below it.
-        if sizes[0] == 0 {
-            return false;
-        }
-        if Session::LIMIT < self.accepted {
-            return false;
-        }
-        let count = self.tree.count;
-        let twice = 2 * self.accepted;
-        entry::pairs(count, twice, false, &sizes, &self.up)
-            & entry::pairs(count, twice, true, &sizes, &self.down)
-            & pass::none(&self.values[usize::from(count)..])
-            & order::ordered(&self.tree, &self.up.lease, &self.down.lease)
+        parts_are_sound(
+            self.tree.count,
+            &self.tree.parents,
+            &self.values,
+            &self.up.lease,
+            &self.up.cache,
+            &self.up.messages,
+            &self.down.lease,
+            &self.down.cache,
+            &self.down.messages,
+            self.accepted,
+        )
     }
 
     // Writes the table of the session's tree into the first bytes, answers how many, and leaves later

@@ -3,12 +3,12 @@ ghost use Rattle.std.specs.Prelude.{◌≡◌};
 ghost use Rattle.session.specs.Parts.{session_by};
 ghost use Rattle.session.specs.Soundness.{sound};
 
-use crate::{Pairs, Session};
+use crate::{Session, entry, order, pass};
 use tree::Tree;
 
-// Whether the session that holds these parts is sound. Whoever has a session asks `Session::is_sound`;
-// this function and its ten parameters stay for its theorem, `parts_are_sound_once`, which
-// docs/PROMISES.md names.
+// Whether the session that holds these parts is sound, for whoever has them at hand and would have to
+// copy them to ask the session itself. `Session::is_sound` asks it of its own.
+#[tactic(auto, using(crate::proofs::InPasses::node_count))]
 pub fn parts_are_sound<'a>(
     count: u16,
     parents: &'a [u8; 256],
@@ -23,23 +23,29 @@ pub fn parts_are_sound<'a>(
 ) -> bool
     ensures { result ≡ sound 2 (session_by count parents.now values.now up_lease.now up_cache.now up_messages.now down_lease.now down_cache.now down_messages.now accepted) }
 {
-    let session = Session {
-        tree: Tree {
-            count,
-            parents: *parents,
-        },
-        values: *values,
-        up: Pairs {
-            lease: *up_lease,
-            cache: *up_cache,
-            messages: *up_messages,
-        },
-        down: Pairs {
-            lease: *down_lease,
-            cache: *down_cache,
-            messages: *down_messages,
-        },
-        accepted,
+    let tree = Tree {
+        count,
+        parents: *parents,
     };
-    session.is_sound()
+    let sizes = tree.sizes();
+    // A tree out of rule has zeros for sizes; in any other the root has itself below it.
+    if sizes[0] == 0 {
+        return false;
+    }
+    if Session::LIMIT < accepted {
+        return false;
+    }
+    let twice = 2 * accepted;
+    entry::pairs(count, twice, false, &sizes, up_lease, up_cache, up_messages)
+        & entry::pairs(
+            count,
+            twice,
+            true,
+            &sizes,
+            down_lease,
+            down_cache,
+            down_messages,
+        )
+        & pass::none(&values[usize::from(count)..])
+        & order::ordered(&tree, up_lease, down_lease)
 }

@@ -1,18 +1,19 @@
 -- One pass over the nodes, from the last one down, sums for each what it knows of its children, and keeps at each child what it was before.
 use mathlib.Core.Path.{◌≡◌, refl, sym, ap, ◌∙◌}
 use mathlib.Core.Bool.{true, false}
-use mathlib.Core.List.{List}
+use mathlib.Core.List.{List, ◌++◌}
 use mathlib.Core.Logic.{◌≢◌}
 use Prim.Native.Nat.{ℕ, zero, suc, ◌+◌, ◌-◌, ◌<◌, ◌≤◌}
 use native.Mathlib.Nat.{add-zero, le_refl}
 use native.Mathlib.Decide.{ℕ_discrete}
 use native.Mathlib.Omega.{arith}
 use lib.IntN.{ℤ, pos, ◌+ℤ◌}
-use lib.ListN.{get_or, set, length, length-set, replicate, length-replicate, get_or-replicate}
+use lib.ListN.{get_or, set, take, drop, length, length-set, length-append, replicate, length-replicate, get_or-append, get_or-replicate}
 use lib.Seq.{get_or-set_same, get_or-set_other}
 use mir.Syntax.{w64}
 use mir.Val.{SFits}
 use borrow.Author.Tests.{eqb-true, lt-ltb, le-ltb, eq-eqb, ne_eqb}
+use Rattle.std.proofs.lemmas.List.{length-drop, length-take-le}
 use Rattle.tree.specs.Operation.{sum}
 use Rattle.tree.specs.Parents.{parent}
 use Rattle.tree.specs.Sides.{adjacent, below}
@@ -96,19 +97,26 @@ later_none : (q : View) (x u m : ℕ) → m ≡ 0 → later q x u m ≡ pos 0
 unfolding later
 later_none q x u m e = rw e
 
--- at first there are zeros
-pub passes_none : {q : View} {x : ℕ} → Passing q x → Passes q x (replicate 256 (pos 0)) (replicate 256 (pos 0)) x q.count
-passes_none {q} {x} h =
+-- at first there are zeros, as many as there are nodes
+pub passes_none : {q : View} {x : ℕ} (up : List ℤ) {down zeros : List ℤ} → Passing q x → length up ≡ 256 → length down ≡ 256 → zeros ≡ replicate (length (take q.count up)) (pos 0)
+    → Passes q x (zeros ++ drop q.count up) down x q.count
+passes_none {q} {x} up {down} {zeros} h up_long down_long e =
     record {
       low = omega (arith, h.inside);
       high = le_refl q.count;
-      up_room = length-replicate 256 (pos 0);
-      down_room = length-replicate 256 (pos 0);
+      up_room = omega (arith, length-append zeros (drop q.count up), length-drop q.count up, long, up_long, h.room);
+      down_room = down_long;
       ahead = ahead_none h.inside;
-      rising = λ u l. get_or-replicate 256 u (pos 0) (pos 0) (omega (arith, h.room)) ∙ sym (later_none q x u (q.count - q.count) (omega arith));
+      rising = λ u l. get_or-append zeros (drop q.count up) (pos 0) u (omega (arith, long)) ∙ rw e (get_or-replicate (length (take q.count up)) u (pos 0) (pos 0) (omega (arith, short))) ∙ sym (later_none q x u (q.count - q.count) (omega arith));
       risen = λ u l m. absurd (omega arith);
       kept = λ w l m. absurd (omega arith);
     }
+  where
+    short : length (take q.count up) ≡ q.count
+    short = length-take-le q.count up (omega (arith, up_long, h.room))
+
+    long : length zeros ≡ q.count
+    long = ap length e ∙ length-replicate (length (take q.count up)) (pos 0) ∙ short
 
 -- the turn of w, with parent p
 pub record Turning (q : View) (x : ℕ) (up down : List ℤ) (at i w p : ℕ) : Type 0 where

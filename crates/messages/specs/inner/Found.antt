@@ -1,10 +1,9 @@
 -- A message's record as one number, and what is found where a record starts.
-use Rattle.std.specs.Prelude.{ℕ, ◌+◌, ◌*◌, ◌^◌, ℤ, List, cond, leb, length, Result, Ok, Err}
+use Rattle.std.specs.Prelude.{ℕ, ◌+◌, ◌*◌, ◌^◌, ℤ, List, cond, leb, Result, Ok, Err}
 use Rattle.refusal.specs.declared.Refusal.{Refusal}
 use Rattle.refusal.specs.declared.Refusal.TheVariants.{Short, Misfit}
 use Rattle.fields.specs.Fields.{field}
 use Rattle.twos.specs.Twos.{twos, within}
-use Rattle.fields.specs.Usable.{usable_bits}
 use Rattle.messages.specs.Records.{fits, width_of, record_of}
 use Rattle.messages.specs.Reading.{message_at}
 use Rattle.messages.specs.declared.Message.{Message}
@@ -17,9 +16,9 @@ numbered m = cond (fits m) (Ok (record_of m)) (Err Misfit)
 abbrev pub after : List ℕ → ℕ → ℕ
 after s place = place + width_of (field s place 2)
 
--- the message whose record starts at a place and lies in the usable log, and the place after it
-unfoldable pub record_at : List ℕ → ℕ → Result (Message × ℕ) Refusal
-record_at s place = cond (leb (after s place) (usable_bits (length s))) (Ok (message_at s place (field s place 2), after s place)) (Err Short)
+-- the message whose record starts at a place and ends before an end, and the place after it
+unfoldable pub record_at : List ℕ → ℕ → ℕ → Result (Message × ℕ) Refusal
+record_at s place end = cond (leb (after s place) end) (Ok (message_at s place (field s place 2), after s place)) (Err Short)
 
 -- the number of a value that fits, behind a head
 unfoldable pub behind : ℕ → ℤ → Result ℕ Refusal

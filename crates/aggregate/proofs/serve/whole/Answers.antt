@@ -1,4 +1,4 @@
--- `serve::whole` meets its contract: 6 where the session is unsound, and else its tree is linked and the request served.
+-- `serve::whole` meets its contract: 6 where the session is unsound, and else the request is served.
 use mathlib.Core.Path.{◌≡◌, sym, ◌∙◌}
 use mathlib.Core.Bool.{true, false}
 use borrow.Author.Rules.{rules}
@@ -22,12 +22,11 @@ returns-then-not-is_sound c =
     let tested : c.is_sound.result ≡ false = search rules in
     ends_unsound c.args.session (request_of c.args.x c.args.act) c.args.log.now c.args.place (sym c.is_sound.ensures ∙ tested)
 
-pub of-links-requires : goal.of-links-requires
-of-links-requires c = let r = (holds (goal.at.of-links-requires c).After-is_sound (search rules)).tree_in_rule in (r.some, (r.few, r.grown))
+pub tested-requires-clause-typed : goal.tested-requires-clause-typed
+tested-requires-clause-typed c = typed c.args.session _ c.well_formed.0
 
-pub request-requires : goal.request-requires
-request-requires c =
-    record { typed = typed c.args.session _ c.well_formed.0; holds = holds (goal.at.request-requires c).After-is_sound (search rules); linked = c.of-links.ensures }
+pub tested-requires-clause-holds : goal.tested-requires-clause-holds
+tested-requires-clause-holds c = holds (goal.at.tested-requires-clause-holds c).After-is_sound (search rules)
 
 pub returns-in_err-outcome : goal.returns-in_err-outcome
 returns-in_err-outcome c =

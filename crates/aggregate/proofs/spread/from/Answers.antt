@@ -8,8 +8,8 @@ use Rattle.aggregate.proofs.spread.from.Goals as goal
 pub returns-then-is_silent : goal.returns-then-is_silent
 returns-then-is_silent c = rw (silent_write (view c.args.ground.session.now) c.args.x c.requires.inside (c.is_silent.ensures c.if-is_silent.true), pushed_all-none)
 
-pub of-later-requires : goal.of-later-requires
-of-later-requires c = passing c.requires.steady c.requires.inside
+pub lay-requires : goal.lay-requires
+lay-requires c = passing c.requires.steady c.requires.inside
 
 pub spread-requires : goal.spread-requires
-spread-requires c = spreading_first c.requires.steady c.requires.inside c.requires.linked c.of-later.ensures
+spread-requires c = spreading_first c.requires.steady c.requires.inside c.requires.linked c.lay.ensures

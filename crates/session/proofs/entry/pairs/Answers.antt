@@ -17,9 +17,9 @@ unfolding pairs
 returns c =
     let a = c.args in
     let n = c.from-n.ensures in
-    let ls = a.pairs.now.lease in
-    let ms = a.pairs.now.messages in
-    let cs = a.pairs.now.cache in
+    let ls = a.lease.now in
+    let ms = a.messages.now in
+    let cs = a.cache.now in
     ap₂ ◌&&◌
     (ap₂ ◌&&◌
     (ap₂ ◌&&◌

@@ -1,4 +1,4 @@
--- `is_sound` meets its contract: the root's size tells whether the tree is in rule, and past that and the limit the passes are made together.
+-- `parts_are_sound` meets its contract: the root's size tells whether the tree is in rule, and past that and the limit the passes are made together.
 use mathlib.Core.Path.{refl, sym, ◌∙◌}
 use Prim.Native.Nat.{◌≤◌}
 use native.Mathlib.Omega.{arith}
@@ -6,24 +6,26 @@ use borrow.Author.Rules.{rules}
 use borrow.Author.Tests.{le-leb, lt-leb}
 use lib.IntN.{pos}
 use Rattle.tree.proofs.Sizes.{root_none}
+use Rattle.session.specs.Parts.{session_by}
 use Rattle.session.specs.Soundness.{limit, sound}
 use Rattle.session.specs.inner.Passes.{values}
 use Rattle.session.proofs.AllZero.{rest_zero}
 use Rattle.session.proofs.InPasses.{rooted, node_count, together, sound_passes}
-use Rattle.session.proofs.Session.is_sound.Goals as goal
+use Rattle.session.proofs.parts.parts_are_sound.Goals as goal
 
 pub returns-then-sizes-eq0 : goal.returns-then-sizes-eq0
 unfolding sound
 returns-then-sizes-eq0 c = rw (root_none _ _ (rw c.sizes-sizes.ensures at c.if-sizes-eq0.true))
 
-pub returns-then-self-gt-LIMIT : goal.returns-then-self-gt-LIMIT
+pub returns-then-accepted-gt-LIMIT : goal.returns-then-accepted-gt-LIMIT
 unfolding sound
-returns-then-self-gt-LIMIT c = rw (rooted _ _ _ c.sizes-sizes.ensures (omega arith), lt-leb c.args.self.now.accepted limit c.if-self-gt-LIMIT.true)
+returns-then-accepted-gt-LIMIT c = rw (rooted _ _ _ c.sizes-sizes.ensures (omega arith), lt-leb c.args.accepted limit c.if-accepted-gt-LIMIT.true)
 
 pub returns : goal.returns
 unfolding values
 returns c =
-    let s = c.args.self.now in
+    let a = c.args in
+    let s = session_by a.count a.parents.now a.values.now a.up_lease.now a.up_cache.now a.up_messages.now a.down_lease.now a.down_cache.now a.down_messages.now a.accepted in
     let few : s.accepted ≤ 1048576 = omega arith in
     together s (rooted _ _ _ c.sizes-sizes.ensures (omega arith)) (le-leb s.accepted limit few)
     (rw c.sizes-sizes.ensures at c.pairs.ensures)

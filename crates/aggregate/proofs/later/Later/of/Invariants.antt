@@ -1,7 +1,0 @@
--- `Later::of` meets its contract: the nodes from i on are passed.
-use Rattle.mechanism.specs.Views.{view}
-use Rattle.walk.proofs.Passes.{Passes}
-use Rattle.aggregate.proofs.later.Later.of.Given as goal
-
-abbrev pub invariant-loop-i : goal.invariant-loop-i
-invariant-loop-i l = Passes (view l.session) l.x l.up l.down l.at l.i
