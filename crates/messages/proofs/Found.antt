@@ -66,9 +66,6 @@ module _ (s : List ℕ) (place end : ℕ) (inside : end ≤ usable_bits (length 
           let h = found s place w n e in
           (rw width (short_or_long (field s place 2)), rw h.2 (field_lt s place w))
 
-      pub record_ends : place + w ≤ usable_bits (length s)
-      record_ends = (found s place w n e).1
-
       pub record_found : place + w ≤ end → Ok (decoded (n * 2 ^ (58 - w)), place + w) ≡ record_at s place end
       unfolding record_at
       record_found h =
